@@ -1,0 +1,52 @@
+-- An answer of document 01: a result, or a number with a place. Each operation's enum is read as one, and its promise is an equation of these.
+-- The place is the record, or for 11 and 12 the node, counted from 0, or 0 where there is none.
+-- Assumes nothing.
+use Prim.Native.Nat.{ℕ}
+use Rattle.refusal.specs.declared.Refusal.{Refusal}
+use Rattle.refusal.specs.declared.Refusal.the-variants.{Length, GridSize, Count, Mass, Velocity, Affine, Position, Identifier, TotalMass, Gravity, NodeMass, NodeVelocity, NewVelocity, NewAffine, NewPosition, SpareBits, Steps}
+
+pub data Answer (A : Type 0) : Type 0 where
+  result : A → Answer A
+  refused : ℕ → ℕ → Answer A
+
+abbrev pub number : Refusal → ℕ
+number Length = 1
+number GridSize = 2
+number Count = 3
+number (Mass k) = 4
+number (Velocity k) = 5
+number (Affine k) = 6
+number (Position k) = 7
+number (Identifier k) = 8
+number (TotalMass k) = 9
+number Gravity = 10
+number (NodeMass k) = 11
+number (NodeVelocity k) = 12
+number (NewVelocity k) = 13
+number (NewAffine k) = 14
+number (NewPosition k) = 15
+number SpareBits = 16
+number Steps = 17
+
+abbrev pub place : Refusal → ℕ
+place Length = 0
+place GridSize = 0
+place Count = 0
+place (Mass k) = k
+place (Velocity k) = k
+place (Affine k) = k
+place (Position k) = k
+place (Identifier k) = k
+place (TotalMass k) = k
+place Gravity = 0
+place (NodeMass k) = k
+place (NodeVelocity k) = k
+place (NewVelocity k) = k
+place (NewAffine k) = k
+place (NewPosition k) = k
+place SpareBits = 0
+place Steps = 0
+
+-- a refusal as document 01 tells it
+abbrev pub refusedBy : {A : Type 0} → Refusal → Answer A
+refusedBy e = refused (number e) (place e)
