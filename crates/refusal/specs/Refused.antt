@@ -2,6 +2,7 @@
 -- The place is the record, or for 11 and 12 the node, counted from 0, or 0 where there is none.
 -- Assumes nothing.
 use Prim.Native.Nat.{ℕ}
+use mathlib.Core.Bool.{Bool, true, false}
 use Rattle.refusal.specs.declared.Refusal.{Refusal}
 use Rattle.refusal.specs.declared.Refusal.the-variants.{Length, GridSize, Count, Mass, Velocity, Affine, Position, Identifier, TotalMass, Gravity, NodeMass, NodeVelocity, NewVelocity, NewAffine, NewPosition, SpareBits, Steps}
 
@@ -50,3 +51,8 @@ place Steps = 0
 -- a refusal as document 01 tells it
 abbrev pub refusedBy : {A : Type 0} → Refusal → Answer A
 refusedBy e = refused (number e) (place e)
+
+-- one check of a list: refused with this number and place where it fails, and else as the rest of the list says
+abbrev pub refuseIf : {A : Type 0} → Bool → ℕ → ℕ → Answer A → Answer A
+refuseIf true n k rest = refused n k
+refuseIf false n k rest = rest
