@@ -1,2 +1,3 @@
 pub mod Ring
 pub mod Solver
+pub mod Sums
