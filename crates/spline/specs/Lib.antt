@@ -1,0 +1,3 @@
+pub mod Spline
+pub mod Moments
+pub mod Answers

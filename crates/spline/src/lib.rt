@@ -1,0 +1,120 @@
+// The quadratic B-spline along one axis, in whole numbers: node spacing 64, weights that total 8192.
+ghost use mathlib.Core.Path.{_≡_};
+ghost use Prim.Native.Nat.{_<_};
+ghost use lib.ListN.{getD};
+ghost use mathlib.Core.List.{[]};
+ghost use Rattle.spline.specs.Answers.{toldWeights, weightsAnswer, rowOf, table};
+use refusal::Refusal;
+
+// The weights of the lower, the nearest and the upper node.
+pub struct AxisWeights {
+    pub lower: u16,
+    pub nearest: u16,
+    pub upper: u16,
+}
+
+pub enum Weighed {
+    Weights(AxisWeights),
+    Refused(Refusal),
+}
+
+// A row for each offset, from −32 on.
+const WEIGHTS: [[u16; 3]; 64] = [
+    [4096, 4096, 0],
+    [3969, 4222, 1],
+    [3844, 4344, 4],
+    [3721, 4462, 9],
+    [3600, 4576, 16],
+    [3481, 4686, 25],
+    [3364, 4792, 36],
+    [3249, 4894, 49],
+    [3136, 4992, 64],
+    [3025, 5086, 81],
+    [2916, 5176, 100],
+    [2809, 5262, 121],
+    [2704, 5344, 144],
+    [2601, 5422, 169],
+    [2500, 5496, 196],
+    [2401, 5566, 225],
+    [2304, 5632, 256],
+    [2209, 5694, 289],
+    [2116, 5752, 324],
+    [2025, 5806, 361],
+    [1936, 5856, 400],
+    [1849, 5902, 441],
+    [1764, 5944, 484],
+    [1681, 5982, 529],
+    [1600, 6016, 576],
+    [1521, 6046, 625],
+    [1444, 6072, 676],
+    [1369, 6094, 729],
+    [1296, 6112, 784],
+    [1225, 6126, 841],
+    [1156, 6136, 900],
+    [1089, 6142, 961],
+    [1024, 6144, 1024],
+    [961, 6142, 1089],
+    [900, 6136, 1156],
+    [841, 6126, 1225],
+    [784, 6112, 1296],
+    [729, 6094, 1369],
+    [676, 6072, 1444],
+    [625, 6046, 1521],
+    [576, 6016, 1600],
+    [529, 5982, 1681],
+    [484, 5944, 1764],
+    [441, 5902, 1849],
+    [400, 5856, 1936],
+    [361, 5806, 2025],
+    [324, 5752, 2116],
+    [289, 5694, 2209],
+    [256, 5632, 2304],
+    [225, 5566, 2401],
+    [196, 5496, 2500],
+    [169, 5422, 2601],
+    [144, 5344, 2704],
+    [121, 5262, 2809],
+    [100, 5176, 2916],
+    [81, 5086, 3025],
+    [64, 4992, 3136],
+    [49, 4894, 3249],
+    [36, 4792, 3364],
+    [25, 4686, 3481],
+    [16, 4576, 3600],
+    [9, 4462, 3721],
+    [4, 4344, 3844],
+    [1, 4222, 3969],
+];
+
+// The table, for a caller that looks many weights up and lends it to `row`.
+pub fn weight_table() -> [[u16; 3]; 64]
+    ensures { λ r. ⌜ r ≡ table ⌝ }
+{
+    WEIGHTS
+}
+
+// The row of an offset, counted from −32, in the table that the caller lends. The transfers and `weights` call it.
+pub fn row(weights: &[[u16; 3]; 64], k: usize) -> AxisWeights
+    requires { ⌜ k < 64 ⌝ }
+    ensures { λ r. ⌜ r ≡ rowOf (getD (now (weights .entry)) k []) ⌝ }
+{
+    AxisWeights {
+        lower: weights[k][0],
+        nearest: weights[k][1],
+        upper: weights[k][2],
+    }
+}
+
+// The weights of the three nodes around a particle at offset q from its nearest node.
+pub fn weights(q: i64) -> Weighed
+    ensures { λ r. ⌜ toldWeights r ≡ weightsAnswer q ⌝ }
+{
+    if q < -32 {
+        return Weighed::Refused(Refusal::Position(0));
+    }
+    if q > 31 {
+        return Weighed::Refused(Refusal::Position(0));
+    }
+    let weights = weight_table();
+    Weighed::Weights(row(&weights, (q + 32) as usize))
+}
