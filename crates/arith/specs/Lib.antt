@@ -1,3 +1,4 @@
 pub mod Ring
 pub mod Solver
+pub mod Order
 pub mod Sums
