@@ -8,7 +8,8 @@
 --     from-append, each-from            a range falls into two; a property of each number of a range
 --     sum-three                         what is zero but at three neighbours of a range
 --     total-pos                         a sum of naturals as a sum of integers
--- Order and size of sums are in Bounds. Assumes nothing.
+--     sum-mono, sum-nonneg, sum-within  the order of sums, and the size of a sum against the sum of sizes
+-- Assumes nothing.
 use mathlib.Core.Path.{_≡_, refl, sym, ap, ap₂, _∙_}
 use mathlib.Core.List.{List, [], _∷_, _++_, map}
 use Prim.Native.Nat.{ℕ, zero, suc, _+_, _*_, _-_, _<_, _≤_}
@@ -16,7 +17,9 @@ use native.Mathlib.Nat.{add-suc, suc-add, add-zero, zero-add}
 use native.Mathlib.Omega.{arith}
 use lib.ListN.{length}
 use lib.IntN.{ℤ, pos, negsuc, negℤ, _+ℤ_, _-ℤ_, _*ℤ_, +ℤ-assoc, +ℤ-comm, +ℤ-idl, +ℤ-idr, *ℤ-zero, *ℤ-comm, negℤ-+ℤ, pos-+ℤ-pos}
-use Rattle.arith.specs.Ring.{*ℤ-+ℤ, +ℤ-left-comm, sum-ac}
+use lib.Signed.{_≤ℤ_, ≤ℤ-refl}
+use Rattle.arith.specs.Ring.{*ℤ-+ℤ, sum-ac}
+use Rattle.arith.specs.Order.{+ℤ-mono, ≤ℤ-trans, Within, within-sum, within-zero}
 
 abbrev pub Each : {A : Type 0} → (A → Type 0) → List A → Type 0
 Each P [] = Unit {0}
@@ -89,6 +92,23 @@ module _ {A : Type 0} where
   pub each-all : (P : A → Type 0) → ((x : A) → P x) → (xs : List A) → Each P xs
   each-all P h [] = tt
   each-all P h (x ∷ xs) = (h x, each-all P h xs)
+
+-- ---- order and size
+
+module _ {A : Type 0} where
+  pub sum-mono : (f g : A → ℤ) (xs : List A) → Each (λ x. f x ≤ℤ g x) xs → sumOver xs f ≤ℤ sumOver xs g
+  sum-mono f g [] e = ≤ℤ-refl (pos 0)
+  sum-mono f g (x ∷ xs) e = +ℤ-mono (e .0) (sum-mono f g xs (e .1))
+
+  pub sum-nonneg : (f : A → ℤ) (xs : List A) → Each (λ x. pos 0 ≤ℤ f x) xs → pos 0 ≤ℤ sumOver xs f
+  sum-nonneg f [] e = ≤ℤ-refl (pos 0)
+  sum-nonneg f (x ∷ xs) e = +ℤ-mono (e .0) (sum-nonneg f xs (e .1))
+
+  pub sum-within : (k f : A → ℤ) (xs : List A) → Each (λ x. Within (k x) (f x)) xs → Within (sumOver xs k) (sumOver xs f)
+  sum-within k f [] e = within-zero (≤ℤ-refl (pos 0))
+  sum-within k f (x ∷ xs) e = within-sum (e .0) (sum-within k f xs (e .1))
+
+-- ---- two lists
 
 pub sum-map : {A B : Type 0} (h : A → B) (f : B → ℤ) (xs : List A) → sumOver (map h xs) f ≡ sumOver xs (λ x. f (h x))
 sum-map h f [] = refl

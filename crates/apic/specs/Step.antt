@@ -1,0 +1,101 @@
+-- Document 01, "The step": source document 003's transfers (3) and (4) in whole numbers.
+-- The weights w of an axis (w x i: node i for a particle at x), D and the rounding are parameters. The engine's are
+-- spline's axisWeight, 1024, and rounding to nearest with halves away from zero. Assumes nothing.
+use mathlib.Core.List.{List, map}
+use Prim.Native.Nat.{ℕ, zero, suc, _+_, _*_, _/_, _%_, _^_}
+use lib.ListN.{getD}
+use lib.IntN.{ℤ, pos, natAbs, _+ℤ_, _-ℤ_, _*ℤ_}
+use Rattle.arith.specs.Sums.{sumOver, upTo}
+use Rattle.spline.specs.Spline.{displacement}
+use Rattle.particle.specs.declared.Particle.{Particle}
+
+pub data Axis : Type 0 where
+  alongX alongY : Axis
+
+-- a particle's coordinate and velocity along an axis; B pairs velocity axis a with offset axis b
+abbrev pub coordinate : Axis → Particle → ℕ
+coordinate alongX p = p .x
+coordinate alongY p = p .y
+
+abbrev pub velocity : Axis → Particle → ℤ
+velocity alongX p = p .vx
+velocity alongY p = p .vy
+
+abbrev pub affine : Axis → Axis → Particle → ℤ
+affine alongX alongX p = p .bxx
+affine alongX alongY p = p .bxy
+affine alongY alongX p = p .byx
+affine alongY alongY p = p .byy
+
+-- node (i, j) minus particle, along an axis
+abbrev pub apart : Axis → Particle → ℕ → ℕ → ℤ
+apart alongX p i j = displacement (p .x) i
+apart alongY p i j = displacement (p .y) j
+
+-- the weight of node (i, j): the product over both axes
+abbrev pub weight : (ℕ → ℕ → ℤ) → Particle → ℕ → ℕ → ℤ
+weight w p i j = w (p .x) i *ℤ w (p .y) j
+
+-- ---- scatter, transfer (3)
+
+-- M = Σ m·w over all particles
+unfoldable pub nodeMass : (ℕ → ℕ → ℤ) → List Particle → ℕ → ℕ → ℤ
+nodeMass w ps i j = sumOver ps (λ p. pos (p .mass) *ℤ weight w p i j)
+
+-- momentum on axis a = Σ m·w·(D·va + Bax·dx + Bay·dy) over all particles
+unfoldable pub nodeMomentum : (ℕ → ℕ → ℤ) → ℤ → Axis → List Particle → ℕ → ℕ → ℤ
+nodeMomentum w D a ps i j =
+    sumOver ps
+    (λ p.
+    pos (p .mass) *ℤ weight w p i j
+    *ℤ (D *ℤ velocity a p +ℤ affine a alongX p *ℤ apart alongX p i j +ℤ affine a alongY p *ℤ apart alongY p i j))
+
+-- ---- update
+
+-- where the mass M is above 0, velocity in 256ths = momentum/(4M), rounded, plus gravity; where M is 0 it is 0
+unfoldable pub nodeVelocity : (ℤ → ℕ → ℤ) → ℤ → ℕ → ℤ → ℤ
+nodeVelocity round g zero momentum = pos 0
+nodeVelocity round g (suc M) momentum = round momentum (4 * suc M) +ℤ g
+
+-- ---- gather, transfer (4)
+
+-- a sum over all nodes of a grid
+abbrev pub overNodes : ℕ → ℕ → (ℕ → ℕ → ℤ) → ℤ
+overNodes nx ny f = sumOver (upTo ny) (λ j. sumOver (upTo nx) (λ i. f i j))
+
+-- velocity = Σ w·u over all nodes, divided by 2^34, rounded; u is the nodes' velocity on one axis
+unfoldable pub gatheredVelocity : (ℤ → ℕ → ℤ) → (ℕ → ℕ → ℤ) → ℕ → ℕ → (ℕ → ℕ → ℤ) → Particle → ℤ
+gatheredVelocity round w nx ny u p = round (overNodes nx ny (λ i j. weight w p i j *ℤ u i j)) (2 ^ 34)
+
+-- an entry of B = Σ w·u·(offset b) over all nodes, divided by 2^34, rounded
+unfoldable pub gatheredAffine : (ℤ → ℕ → ℤ) → (ℕ → ℕ → ℤ) → ℕ → ℕ → Axis → (ℕ → ℕ → ℤ) → Particle → ℤ
+gatheredAffine round w nx ny b u p =
+    round (overNodes nx ny (λ i j. weight w p i j *ℤ u i j *ℤ apart b p i j)) (2 ^ 34)
+
+-- the new coordinate: the old one and the new velocity
+abbrev pub newCoordinate : Axis → Particle → ℤ → ℤ
+newCoordinate a p v = pos (coordinate a p) +ℤ v
+
+-- the particle after the gather; its coordinates are numbers of a record where the new place is on the grid
+unfoldable pub moved : (ℤ → ℕ → ℤ) → (ℕ → ℕ → ℤ) → ℕ → ℕ → (ℕ → ℕ → ℤ) → (ℕ → ℕ → ℤ) → Particle → Particle
+moved round w nx ny ux uy p =
+    record {
+      identifier = p .identifier;
+      mass = p .mass;
+      x = natAbs (newCoordinate alongX p (gatheredVelocity round w nx ny ux p));
+      y = natAbs (newCoordinate alongY p (gatheredVelocity round w nx ny uy p));
+      vx = gatheredVelocity round w nx ny ux p;
+      vy = gatheredVelocity round w nx ny uy p;
+      bxx = gatheredAffine round w nx ny alongX ux p;
+      bxy = gatheredAffine round w nx ny alongY ux p;
+      byx = gatheredAffine round w nx ny alongX uy p;
+      byy = gatheredAffine round w nx ny alongY uy p;
+    }
+
+-- ---- grids as lists: node (i, j) has index j·Nx + i
+
+abbrev pub grid : {A : Type 0} → ℕ → ℕ → (ℕ → ℕ → A) → List A
+grid nx ny f = map (λ k. f (k % nx) (k / nx)) (upTo (nx * ny))
+
+abbrev pub node : ℕ → List ℤ → ℕ → ℕ → ℤ
+node nx u i j = getD u (j * nx + i) (pos 0)
