@@ -1,4 +1,5 @@
 pub mod Ring
 pub mod Solver
 pub mod Order
+pub mod Size
 pub mod Sums
