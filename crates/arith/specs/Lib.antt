@@ -2,4 +2,5 @@ pub mod Ring
 pub mod Solver
 pub mod Order
 pub mod Size
+pub mod Rounding
 pub mod Sums

@@ -1,11 +1,12 @@
 -- The order of the integers of lib.IntN: linear facts in one line, the laws by name, and allowances.
 --     linear                        a linear fact from others, in one line (below)
---     leZ-true .. <ℤ-leZ            a test's flag and the fact that it tells
---     ≤ℤ-trans .. ≤ℤ-total          the order
---     +ℤ-mono .. square-nonneg      the order and the operations
---     pos-mono, pos-cancel          the order of the natural numbers
---     Within k z                    -k ≤ z ≤ k, with laws for sum, difference, sign, multiple, product, a wider k
--- In one line: `linear (x ∷ y ∷ []) (h & k) (search reading depth 30) (omega arith)` proves a goal `a ≤ℤ b`, `a <ℤ b`, `a ≡ b`, `Within k z` or `⊥`, or one between natural numbers, from h and k, which are such facts (`tt` for none).
+--     ≤ℤ-trans, ≤ℤ-<ℤ-trans, ≤ℤ-antisym, ≤ℤ-of-eq, ≤ℤ-of-<ℤ, ≤ℤ-total       the order
+--     leZ-true, leZ-false, ltZ-true, ltZ-false      what a test's flag tells; ≤ℤ-leZ, <ℤ-leZ, <ℤ-ltZ, ≤ℤ-ltZ     the flag from the fact
+--     pos-mono, pos-cancel, pos-nonneg, nonneg-pos  the natural numbers among the integers
+--     +ℤ-mono, -ℤ-mono, negℤ-anti, difference-nonneg, ≤ℤ-of-difference         sums and differences
+--     *ℤ-nonneg, *ℤ-mono-left, *ℤ-mono-right, *ℤ-cancel-left, square-nonneg    products
+--     Within k z                    -k ≤ z ≤ k: within-sum, -difference, -neg, -scale, -cancel, -product, -widen, -zero, -of, -nonneg, -equal
+-- In one line: `linear (x ∷ y ∷ []) (h & k) (search reading depth 30) (omega arith)` proves a goal `a ≤ℤ b`, `a <ℤ b`, `a ≡ b`, `Within k z` or `⊥`, or one between natural numbers, from h and k, which are such facts (`nothing` for none).
 -- The list holds what counts as an unknown: variables, or any other integers. What is made of these, of numerals and of `pos n` by +ℤ, -ℤ, negℤ and *ℤ is read; a product of unknowns is multiplied out, and its terms are unknowns.
 -- Facts of natural numbers in scope are used unasked, and more may be listed: `omega (arith, fact)`. A longer goal wants `depth 30 fits 20000`. `_≤ℤ_` binds tighter than `+ℤ`: parenthesise.
 -- Assumes nothing.
@@ -13,9 +14,9 @@ use mathlib.Core.Path.{_≡_, refl, sym, ap, ap₂, _∙_, subst, subst₂}
 use mathlib.Core.Bool.{Bool, true, false, not}
 use mathlib.Core.List.{List, [], _∷_}
 use mathlib.Core.Logic.{_⊎_, inl, inr, ⊎-elim}
-use Prim.Native.Nat.{ℕ, zero, suc, _+_, _*_, _≤_, _<_}
+use Prim.Native.Nat.{ℕ, zero, suc, _+_, _*_, _≤_}
 use native.Mathlib.Omega.{arith}
-use lib.Dec.{T, leb, ltb, leb→le, le→leb, ltb→lt, lt→ltb, leb·suc-suc, nleb→lt}
+use lib.Dec.{T, leb, leb→le, le→leb, lt→ltb, leb·suc-suc, nleb→lt}
 use lib.IntN.{ℤ, pos, negsuc, sucℤ, predℤ, negℤ, _+ℤ_, _-ℤ_, _*ℤ_, +ℤ-idl, +ℤ-idr, +ℤ-one, +ℤ-sucℤ, +ℤ-predℤ, natAbs}
 use lib.Signed.{leZ, ltZ, _≤ℤ_, _<ℤ_, ≤ℤ-refl, leZ-yes, ltZ-yes, clashℤ, yes-nonNeg, pos-natAbs}
 use Rattle.arith.specs.Ring.{ℤ-steps}
@@ -254,6 +255,9 @@ infixr 4 _&_
 abbrev pub _&_ : {A B : Type 0} → A → B → A × B
 x & y = (x, y)
 
+abbrev pub nothing : Unit {0}
+nothing = tt
+
 pub linear : (ρ : List ℤ) {A G : Type 0} → A → (r : Reading ρ (A → G)) → r .says → G
 linear ρ h r f = r .from f h
 
@@ -358,6 +362,15 @@ pub *ℤ-mono-right : {a b c : ℤ} → pos 0 ≤ℤ c → a ≤ℤ b → (a *�
 *ℤ-mono-right {a} {b} {c} h k =
     linear (a ∷ b ∷ c ∷ []) (*ℤ-nonneg h (difference-nonneg k)) (search reading depth 30) (omega arith)
 
+pub *ℤ-cancel-left : {a b c : ℤ} → pos 0 <ℤ c → (c *ℤ a) ≤ℤ (c *ℤ b) → a ≤ℤ b
+*ℤ-cancel-left {a} {b} {c} h k = ⊎-elim (λ l. l) (λ l. absurd (never (*ℤ-mono-left (≤ℤ-of-<ℤ h) (next l)))) (≤ℤ-total a b)
+  where
+    next : b <ℤ a → (b +ℤ pos 1) ≤ℤ a
+    next l = linear (a ∷ b ∷ []) l (search reading depth 30) (omega arith)
+
+    never : (c *ℤ (b +ℤ pos 1)) ≤ℤ (c *ℤ a) → ⊥
+    never m = linear (a ∷ b ∷ c ∷ []) (h & k & m) (search reading depth 30) (omega arith)
+
 pub square-nonneg : (a : ℤ) → pos 0 ≤ℤ (a *ℤ a)
 square-nonneg (pos n) = pos-nonneg (n * n)
 square-nonneg (negsuc n) = pos-nonneg (suc n * suc n)
@@ -397,3 +410,13 @@ module _ {k x : ℤ} where
 
 pub within-zero : {k : ℤ} → pos 0 ≤ℤ k → Within k (pos 0)
 within-zero {k} h = linear (k ∷ []) h (search reading depth 30) (omega arith)
+
+pub within-equal : {k x y : ℤ} → x ≡ y → Within k x → Within k y
+within-equal {k} e p = subst (λ z. Within k z) e p
+
+pub within-cancel : {c k x : ℤ} → pos 0 <ℤ c → Within (c *ℤ k) (c *ℤ x) → Within k x
+within-cancel {c} {k} {x} h p =
+    record {
+      low = *ℤ-cancel-left h (linear (c ∷ k ∷ x ∷ []) p (search reading depth 30) (omega arith));
+      high = *ℤ-cancel-left h (p .high);
+    }
