@@ -1,6 +1,6 @@
--- Each tool of arith on a case of document 01: an identity by the ring solver, a linear fact, a machine fit from bounds, and
--- a sum that is zero but at three nodes. Assumes nothing.
-use mathlib.Core.Path.{_≡_}
+-- Each tool of arith on a case of document 01: an identity by the ring solver, a linear fact, a machine fit from bounds,
+-- a sum that is zero but at three nodes; and the rounding of a half at both signs. Assumes nothing.
+use mathlib.Core.Path.{_≡_, refl}
 use mathlib.Core.List.{[], _∷_}
 use Prim.Native.Nat.{ℕ, _+_, _-_, _≤_, _<_}
 use native.Mathlib.Omega.{arith}
@@ -12,6 +12,7 @@ use Rattle.arith.specs.Solver.{ring, quote}
 use Rattle.arith.specs.Order.{linear, reading, _&_}
 use Rattle.arith.specs.Size.{Bound, sizes, fits, bounded}
 use Rattle.arith.specs.Sums.{sumOver, upTo, sum-three}
+use Rattle.arith.specs.Rounding.{nearest, halvesAway}
 
 -- the second moment of the three weights at offset q is 8192·1024
 second-moment : (q : ℤ) → (pos 32 -ℤ q) *ℤ (pos 32 -ℤ q) *ℤ ((negsuc 63 -ℤ q) *ℤ (negsuc 63 -ℤ q)) +ℤ (pos 6144 -ℤ pos 2 *ℤ (q *ℤ q)) *ℤ (q *ℤ q) +ℤ (pos 32 +ℤ q) *ℤ (pos 32 +ℤ q) *ℤ ((pos 64 -ℤ q) *ℤ (pos 64 -ℤ q)) ≡ pos 8192 *ℤ pos 1024
@@ -32,3 +33,12 @@ momentum-fits m w v bx by dx dy a b c d e f g = fits (search sizes depth 20) tt
 -- a sum over an axis of n nodes of what is zero but at c − 1, c and c + 1
 three-nodes : (f : ℕ → ℤ) (c n : ℕ) → 1 ≤ c → c + 1 < n → ((k : ℕ) → k + 1 < c → f k ≡ pos 0) → ((k : ℕ) → c + 1 < k → f k ≡ pos 0) → sumOver (upTo n) f ≡ f (c - 1) +ℤ f c +ℤ f (c + 1)
 three-nodes f c n low high below above = sum-three f c n low high below above
+
+-- a lone particle at rest under gravity 128 or −128 gathers 2^26·128 or −2^26·128, half of 2^34
+half-up : nearest halvesAway (pos 8589934592) 17179869184 ≡ pos 1
+unfolding nearest
+half-up = refl
+
+half-down : nearest halvesAway (negsuc 8589934591) 17179869184 ≡ negsuc 0
+unfolding nearest
+half-down = refl
