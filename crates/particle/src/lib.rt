@@ -1,3 +1,18 @@
+// A particle record of 14 bytes: read and written, bit for bit.
+mod bits;
+mod limits;
+
+use refusal::Refusal;
+ghost use mathlib.Core.Path.{_≡_};
+ghost use mathlib.Core.Bool.{_&&_, _||_};
+ghost use lib.IntN.{pos, negℤ};
+ghost use lib.ListN.{length};
+ghost use Rattle.refusal.specs.Refused.{result};
+ghost use Rattle.particle.specs.Record.{particleOf, recordOf, isℤ, validMass, validVelocity, validAffine, validPosition, readParticle, readAnswer, toldRead, writeParticle, writeAnswer, written, toldWritten};
+
+// The length of a particle record in bytes.
+pub const RECORD_LENGTH: usize = 14;
+
 pub struct Particle {
     pub identifier: u16,
     pub mass: u16,
@@ -9,4 +24,151 @@ pub struct Particle {
     pub bxy: i16,
     pub byx: i16,
     pub byy: i16,
+}
+
+pub enum Read {
+    Found(Particle),
+    Refused(Refusal),
+}
+
+pub enum Written {
+    Done,
+    Refused(Refusal),
+}
+
+// The particle that a record holds. `read_at` calls it with a record of the right length.
+fn unpack(bytes: &[u8]) -> Particle
+    requires { ⌜ length (now bytes) ≡ 14 ⌝ }
+    ensures { λ r. ⌜ r ≡ particleOf (now (bytes .entry)) ⌝ }
+{
+    Particle {
+        identifier: bits::unsigned(bytes, 0, 256, 65536),
+        mass: bits::unsigned(bytes, 2, 16384, 1024),
+        x: bits::unsigned(bytes, 3, 1024, 4096),
+        y: bits::unsigned(bytes, 4, 64, 4096),
+        vx: bits::signed(bytes, 6, 32768, 64),
+        vy: bits::signed(bytes, 7, 65536, 64),
+        bxx: bits::signed(bytes, 8, 4096, 2048),
+        bxy: bits::signed(bytes, 9, 256, 2048),
+        byx: bits::signed(bytes, 11, 4096, 2048),
+        byy: bits::signed(bytes, 11, 1, 2048),
+    }
+}
+
+// The answer for a particle that was read from the record with this index.
+fn accept(p: Particle, index: usize) -> Read
+    ensures { λ r. ⌜ toldRead r ≡ readParticle index p ⌝ }
+{
+    if p.mass == limits::NO_MASS {
+        return Read::Refused(Refusal::Mass(index));
+    }
+    if limits::one_is(p.vx, p.vy, limits::NO_VELOCITY) {
+        return Read::Refused(Refusal::Velocity(index));
+    }
+    if limits::one_is(p.bxx, p.bxy, limits::NO_AFFINE) {
+        return Read::Refused(Refusal::Affine(index));
+    }
+    if limits::one_is(p.byx, p.byy, limits::NO_AFFINE) {
+        return Read::Refused(Refusal::Affine(index));
+    }
+    Read::Found(p)
+}
+
+// Read a record: any slice. A refusal of the particle's values names the record with this index of its set.
+pub fn read_at(bytes: &[u8], index: usize) -> Read
+    ensures { λ r. ⌜ toldRead r ≡ readAnswer index (now (bytes .entry)) ⌝ }
+{
+    if bytes.len() != RECORD_LENGTH {
+        return Read::Refused(Refusal::Length);
+    }
+    accept(unpack(bytes), index)
+}
+
+// Read a record by itself.
+pub fn read_record(bytes: &[u8]) -> Read
+    ensures { λ r. ⌜ toldRead r ≡ readAnswer 0 (now (bytes .entry)) ⌝ }
+{
+    read_at(bytes, 0)
+}
+
+// The answer for a particle that is to be written.
+fn allow(p: Particle) -> Written
+    ensures { λ r. ⌜ toldWritten r ≡ writeParticle p ⌝ }
+{
+    if !limits::mass_is_valid(p.mass) {
+        return Written::Refused(Refusal::Mass(0));
+    }
+    if !limits::both_between(p.vx, p.vy, limits::LEAST_VELOCITY, limits::MOST_VELOCITY) {
+        return Written::Refused(Refusal::Velocity(0));
+    }
+    if !limits::both_between(p.bxx, p.bxy, limits::LEAST_AFFINE, limits::MOST_AFFINE) {
+        return Written::Refused(Refusal::Affine(0));
+    }
+    if !limits::both_between(p.byx, p.byy, limits::LEAST_AFFINE, limits::MOST_AFFINE) {
+        return Written::Refused(Refusal::Affine(0));
+    }
+    if !limits::position_is_valid(p.x, p.y) {
+        return Written::Refused(Refusal::Position(0));
+    }
+    Written::Done
+}
+
+// The record that holds a particle. `write_record` calls it with a particle that it accepts.
+fn pack(p: Particle) -> [u8; 14]
+    requires { ⌜ writeParticle p ≡ result tt ⌝ }
+    ensures { λ r. ⌜ r ≡ recordOf p ⌝ }
+{
+    let vx = bits::residue(p.vx, 128);
+    let vy = bits::residue(p.vy, 128);
+    let bxx = bits::residue(p.bxx, 4096);
+    let bxy = bits::residue(p.bxy, 4096);
+    let byx = bits::residue(p.byx, 4096);
+    let byy = bits::residue(p.byy, 4096);
+    [
+        bits::byte(0, 1, p.identifier, 256),
+        bits::byte(0, 1, p.identifier, 1),
+        bits::byte(0, 1, p.mass, 4),
+        bits::byte(p.mass, 64, p.x, 64),
+        bits::byte(p.x, 4, p.y, 1024),
+        bits::byte(0, 1, p.y, 4),
+        bits::byte(p.y, 64, vx, 2),
+        bits::byte(vx, 128, vy, 1),
+        bits::byte(0, 1, bxx, 16),
+        bits::byte(bxx, 16, bxy, 256),
+        bits::byte(0, 1, bxy, 1),
+        bits::byte(0, 1, byx, 16),
+        bits::byte(byx, 16, byy, 256),
+        bits::byte(0, 1, byy, 1),
+    ]
+}
+
+// Copies a record into a buffer of its length.
+fn store(source: &[u8], bytes: &mut [u8])
+    requires { ⌜ (length (now source) ≡ 14) × (length (now bytes) ≡ 14) ⌝ }
+    ensures { λ _. ⌜ now (bytes .exit) ≡ now (source .entry) ⌝ }
+{
+    let mut i = 0;
+    while i < RECORD_LENGTH {
+        bytes[i] = source[i];
+        i += 1;
+    }
+}
+
+// Write a record: any numbers, any buffer. A refused call leaves the buffer as it was.
+pub fn write_record(p: Particle, bytes: &mut [u8]) -> Written
+    ensures answer { λ r. ⌜ toldWritten r ≡ writeAnswer p (now (bytes .entry)) ⌝ }
+    ensures buffer { λ _. ⌜ now (bytes .exit) ≡ written p (now (bytes .entry)) ⌝ }
+{
+    if bytes.len() != RECORD_LENGTH {
+        return Written::Refused(Refusal::Length);
+    }
+    let answer = allow(p);
+    match answer {
+        Written::Refused(refusal) => Written::Refused(refusal),
+        Written::Done => {
+            let packed = pack(p);
+            store(&packed, bytes);
+            Written::Done
+        }
+    }
 }

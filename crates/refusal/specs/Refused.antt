@@ -56,3 +56,8 @@ refusedBy e = refused (number e) (place e)
 abbrev pub refuseIf : {A : Type 0} → Bool → ℕ → ℕ → Answer A → Answer A
 refuseIf true n k rest = refused n k
 refuseIf false n k rest = rest
+
+-- an answer that goes on where there is a result
+abbrev pub andThen : {A B : Type 0} → Answer A → (A → Answer B) → Answer B
+andThen (result a) next = next a
+andThen (refused n k) next = refused n k

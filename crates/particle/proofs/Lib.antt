@@ -1,0 +1,6 @@
+pub mod Bytes
+pub mod Fields
+pub mod Flags
+pub mod Signed
+pub mod Valid
+pub mod Writing

@@ -1,0 +1,70 @@
+-- `write_record` meets its contract: the length, then what `allow` answers of the particle, and the buffer that goes with the answer. Assumes nothing.
+use borrow.Author.Needs.{needs}
+use mathlib.Core.Path.{_≡_, sym, ap, _∙_}
+use denote.Ref.{now}
+use Rattle.refusal.specs.Refused.{result, refusedBy}
+use Rattle.particle.specs.Record.{writeParticle, writeAnswer, toldWritten}
+use Rattle.particle.proofs.Writing.{after, long, judged}
+use Rattle.particle.proofs.write_record.Statement.{statement}
+use Rattle.particle.proofs.write_record.Tie as tie
+
+returns : tie.Need-returns
+returns c =
+    let e = long (c .before .before .args .p) (now (c .before .before .args .bytes)) (c .if1 .taken) in
+    (sym e, sym (after (c .before .before .args .p) (now (c .before .before .args .bytes)) e))
+
+allow-requires : tie.Need-allow-requires
+allow-requires c κs = search needs
+
+enum-known-answer : tie.Need-enum-known-answer
+enum-known-answer c = search needs
+
+enum-told : tie.Need-enum-told
+enum-told c = search needs
+
+pack-requires : tie.Need-pack-requires
+pack-requires c κs = sym (c .before .before .allow .ensures) ∙ ap toldWritten (c .enum-told .given .1)
+
+slice-aggregate-store : tie.Need-slice-aggregate-store
+slice-aggregate-store c = search needs
+
+store-requires : tie.Need-store-requires
+store-requires c κs = search needs
+
+returns-2 : tie.Need-returns-2
+returns-2 c =
+    let p = c .before .before .before .before .before .before .args .p in
+    let l = now (c .before .before .before .before .before .before .args .bytes) in
+    let e =
+    judged p l (c .before .before .before .before .if1 .left)
+    ∙ sym (c .before .before .before .allow .ensures)
+    ∙ ap toldWritten (c .before .answer .given .1) in
+    (sym e, sym (after p l e))
+
+same-length : tie.Need-same-length
+same-length c = search needs
+
+returns-3 : tie.Need-returns-3
+returns-3 c =
+    let p = c .before .before .before .before .before .before .before .before .before .before .before .args .p in
+    let l = now (c .before .before .before .before .before .before .before .before .before .before .before .args .bytes) in
+    let e =
+    judged p l (c .before .before .before .before .before .before .before .before .before .if1 .left)
+    ∙ sym (c .before .before .before .before .before .before .before .before .allow .ensures)
+    ∙ ap toldWritten (c .before .before .before .before .before .before .enum-told .given .1) in
+    (sym e, c .before .before .store .ensures ∙ c .before .before .before .before .before .pack .ensures ∙ sym (after p l e))
+
+pub write-record-spec : {M : Type 1} → statement M
+write-record-spec =
+    tie.close
+    (tie.spec
+    returns
+    allow-requires
+    enum-known-answer
+    enum-told
+    pack-requires
+    slice-aggregate-store
+    store-requires
+    returns-2
+    same-length
+    returns-3)

@@ -1,0 +1,4 @@
+pub mod Bits
+pub mod Internal
+pub mod Layout
+pub mod Record

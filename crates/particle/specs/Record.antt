@@ -1,0 +1,116 @@
+-- Reading and writing a particle record: the answers of document 01's "Read a record" and "Write a record", and the buffer that a write leaves.
+-- Assumes nothing.
+use Prim.Native.Nat.{ℕ}
+use mathlib.Core.Bool.{Bool, not, _&&_, _||_}
+use mathlib.Core.List.{List}
+use lib.Dec.{eqb, leb}
+use lib.IntN.{ℤ, pos, negsuc, negℤ, natAbs}
+use lib.Signed.{leZ}
+use lib.ListN.{length}
+use Rattle.refusal.specs.Refused.{Answer, result, refused, refusedBy, refuseIf}
+use Rattle.particle.specs.declared.Particle.{Particle}
+use Rattle.particle.specs.declared.Read.{Read}
+use Rattle.particle.specs.declared.Read.the-variants as read
+use Rattle.particle.specs.declared.Written.{Written}
+use Rattle.particle.specs.declared.Written.the-variants as write
+use Rattle.particle.specs.Layout.{Name, identifier, mass, x, y, vx, vy, Bxx, Bxy, Byx, Byy, recordLength, held, packed}
+
+-- the particle that a record of the right length holds
+unfoldable pub particleOf : List ℕ → Particle
+particleOf bytes =
+    record {
+      identifier = natAbs (held identifier bytes);
+      mass = natAbs (held mass bytes);
+      x = natAbs (held x bytes);
+      y = natAbs (held y bytes);
+      vx = held vx bytes;
+      vy = held vy bytes;
+      bxx = held Bxx bytes;
+      bxy = held Bxy bytes;
+      byx = held Byx bytes;
+      byy = held Byy bytes;
+    }
+
+abbrev pub valueIn : Particle → Name → ℤ
+valueIn p identifier = pos (p .identifier)
+valueIn p mass = pos (p .mass)
+valueIn p x = pos (p .x)
+valueIn p y = pos (p .y)
+valueIn p vx = p .vx
+valueIn p vy = p .vy
+valueIn p Bxx = p .bxx
+valueIn p Bxy = p .bxy
+valueIn p Byx = p .byx
+valueIn p Byy = p .byy
+
+-- the record that holds a particle
+unfoldable pub recordOf : Particle → List ℕ
+recordOf p = packed (valueIn p)
+
+-- ---- the limits of "Records"
+
+abbrev pub between : ℤ → ℤ → ℤ → Bool
+between low high z = leZ low z && leZ z high
+
+abbrev pub validMass : ℕ → Bool
+validMass m = leb 1 m && leb m 1023
+
+abbrev pub validVelocity : ℤ → Bool
+validVelocity v = between (negℤ (pos 63)) (pos 63) v
+
+abbrev pub validAffine : ℤ → Bool
+validAffine b = between (negℤ (pos 2047)) (pos 2047) b
+
+abbrev pub validPosition : ℕ → Bool
+validPosition a = leb a 4095
+
+-- ---- "Read a record"
+
+abbrev pub isℤ : ℤ → ℤ → Bool
+isℤ k z = between k k z
+
+-- 4 mass zero; 5 a velocity of −64; 6 a B entry of −2048
+unfoldable pub readParticle : ℕ → Particle → Answer Particle
+readParticle index p =
+    refuseIf (eqb (p .mass) 0) 4 index
+    (refuseIf (isℤ (negℤ (pos 64)) (p .vx) || isℤ (negℤ (pos 64)) (p .vy)) 5 index
+    (refuseIf
+    ((isℤ (negℤ (pos 2048)) (p .bxx) || isℤ (negℤ (pos 2048)) (p .bxy))
+    || (isℤ (negℤ (pos 2048)) (p .byx) || isℤ (negℤ (pos 2048)) (p .byy)))
+    6 index
+    (result p)))
+
+-- 1 length not 14, and then the particle's; a refusal names the record with this index of its set
+unfoldable pub readAnswer : ℕ → List ℕ → Answer Particle
+readAnswer index bytes =
+    refuseIf (not (eqb (length bytes) recordLength)) 1 0 (readParticle index (particleOf bytes))
+
+abbrev pub toldRead : Read → Answer Particle
+toldRead (read.Found p) = result p
+toldRead (read.Refused e) = refusedBy e
+
+-- ---- "Write a record"
+
+-- 4 mass not 1 to 1023; 5 velocity out of range; 6 B out of range; 7 x or y outside 0 to 4095
+unfoldable pub writeParticle : Particle → Answer Unit
+writeParticle p =
+    refuseIf (not (validMass (p .mass))) 4 0
+    (refuseIf (not (validVelocity (p .vx) && validVelocity (p .vy))) 5 0
+    (refuseIf (not ((validAffine (p .bxx) && validAffine (p .bxy)) && (validAffine (p .byx) && validAffine (p .byy)))) 6 0
+    (refuseIf (not (validPosition (p .x) && validPosition (p .y))) 7 0 (result tt))))
+
+-- 1 length not 14, and then the particle's
+unfoldable pub writeAnswer : Particle → List ℕ → Answer Unit
+writeAnswer p bytes = refuseIf (not (eqb (length bytes) recordLength)) 1 0 (writeParticle p)
+
+-- the buffer afterwards: the record where the answer is a result, and else what it was
+abbrev pub keptUnless : Answer Unit → List ℕ → List ℕ → List ℕ
+keptUnless (result r) new old = new
+keptUnless (refused n k) new old = old
+
+unfoldable pub written : Particle → List ℕ → List ℕ
+written p bytes = keptUnless (writeAnswer p bytes) (recordOf p) bytes
+
+abbrev pub toldWritten : Written → Answer Unit
+toldWritten write.Done = result tt
+toldWritten (write.Refused e) = refusedBy e

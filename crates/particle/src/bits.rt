@@ -1,0 +1,62 @@
+// Parts of a run of bytes, by division with powers of two.
+ghost use mathlib.Core.Path.{_≡_};
+ghost use Prim.Native.Nat.{_+_, _*_, _/_, _%_, _≤_, _<_};
+ghost use lib.ListN.{length};
+ghost use lib.Signed.{mag};
+ghost use Rattle.particle.specs.Bits.{twosComplement, residue};
+ghost use Rattle.particle.specs.Internal.{window};
+
+fn wide(byte: u8) -> u32
+    ensures { λ r. ⌜ (r ≡ byte) × (r < 256) ⌝ }
+{
+    byte as u32
+}
+
+// The number that the three bytes from `at` on make, divided by `drop` and reduced modulo `span`: a field of three bytes' span at most.
+pub fn unsigned(bytes: &[u8], at: usize, drop: u32, span: u32) -> u16
+    requires { ⌜ (at + 3 ≤ length (now bytes)) × (0 < drop) × (0 < span) × (span ≤ 65536) ⌝ }
+    ensures { λ r. ⌜ r ≡ window (now (bytes .entry)) at / drop % span ⌝ }
+{
+    let three = wide(bytes[at]) * 65536 + wide(bytes[at + 1]) * 256 + wide(bytes[at + 2]);
+    (three / drop % span) as u16
+}
+
+// A number below twice `half`, read in two's complement.
+fn twos_complement(part: u16, half: u16) -> i16
+    requires { ⌜ (part < half + half) × (half ≤ 16383) ⌝ }
+    ensures { λ r. ⌜ r ≡ twosComplement half part ⌝ }
+{
+    if part < half {
+        part as i16
+    } else {
+        part as i16 - (half + half) as i16
+    }
+}
+
+// The same for a signed field, which spans twice `half`.
+pub fn signed(bytes: &[u8], at: usize, drop: u32, half: u16) -> i16
+    requires { ⌜ (at + 3 ≤ length (now bytes)) × (0 < drop) × (0 < half) × (half ≤ 16383) ⌝ }
+    ensures { λ r. ⌜ r ≡ twosComplement half (window (now (bytes .entry)) at / drop % (half + half)) ⌝ }
+{
+    twos_complement(unsigned(bytes, at, drop, (half + half) as u32), half)
+}
+
+// The number below `span` that stands for a signed one in two's complement.
+pub fn residue(value: i16, span: u16) -> u16
+    requires { ⌜ (mag value < span) × (span ≤ 16384) ⌝ }
+    ensures { λ r. ⌜ (r ≡ residue span value) × (r < span) ⌝ }
+{
+    if value < 0 {
+        (value + span as i16) as u16
+    } else {
+        value as u16
+    }
+}
+
+// A byte: the low bits of `high`, moved up by a product with `scale`, and then what a division by `drop` leaves of `low`.
+pub fn byte(high: u16, scale: u16, low: u16, drop: u16) -> u8
+    requires { ⌜ 0 < drop ⌝ }
+    ensures { λ r. ⌜ r ≡ (high * scale + low / drop) % 256 ⌝ }
+{
+    ((high as u32 * scale as u32 + (low / drop) as u32) % 256) as u8
+}

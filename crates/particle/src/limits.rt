@@ -1,0 +1,55 @@
+// The limits of a particle's values, and the tests against them.
+ghost use mathlib.Core.Path.{_≡_};
+ghost use mathlib.Core.Bool.{_&&_, _||_};
+ghost use Rattle.particle.specs.Record.{between, isℤ, validMass, validPosition};
+
+pub const LEAST_MASS: u16 = 1;
+
+pub const MOST_MASS: u16 = 1023;
+
+pub const LEAST_VELOCITY: i16 = -63;
+
+pub const MOST_VELOCITY: i16 = 63;
+
+pub const LEAST_AFFINE: i16 = -2047;
+
+pub const MOST_AFFINE: i16 = 2047;
+
+pub const MOST_POSITION: u16 = 4095;
+
+// The numbers that a record's fields can hold beside these.
+pub const NO_MASS: u16 = 0;
+
+pub const NO_VELOCITY: i16 = -64;
+
+pub const NO_AFFINE: i16 = -2048;
+
+fn between(value: i16, low: i16, high: i16) -> bool
+    ensures { λ r. ⌜ r ≡ between low high value ⌝ }
+{
+    low <= value && value <= high
+}
+
+pub fn both_between(a: i16, b: i16, low: i16, high: i16) -> bool
+    ensures { λ r. ⌜ r ≡ between low high a && between low high b ⌝ }
+{
+    between(a, low, high) && between(b, low, high)
+}
+
+pub fn one_is(a: i16, b: i16, value: i16) -> bool
+    ensures { λ r. ⌜ r ≡ isℤ value a || isℤ value b ⌝ }
+{
+    between(a, value, value) || between(b, value, value)
+}
+
+pub fn mass_is_valid(mass: u16) -> bool
+    ensures { λ r. ⌜ r ≡ validMass mass ⌝ }
+{
+    LEAST_MASS <= mass && mass <= MOST_MASS
+}
+
+pub fn position_is_valid(x: u16, y: u16) -> bool
+    ensures { λ r. ⌜ r ≡ validPosition x && validPosition y ⌝ }
+{
+    x <= MOST_POSITION && y <= MOST_POSITION
+}

@@ -1,0 +1,139 @@
+-- The checks as facts: of sizes and lengths, and of an accepted set, record by record. Assumes nothing.
+use mathlib.Core.Path.{_≡_, refl, sym, ap, _∙_, subst}
+use mathlib.Core.Bool.{Bool, true, false, not, _&&_}
+use mathlib.Core.List.{List, [], _∷_}
+use Prim.Native.Nat.{ℕ, zero, suc, _+_, _*_, _/_, _%_, _≤_}
+use native.Mathlib.Omega.{arith}
+use lib.Dec.{T, leb, ltb, eqb, leb→le, eqb→eq}
+use lib.ListN.{length}
+use mir.Facts.{and-yes}
+use borrow.Author.Tests.{not-false, ltb-false}
+use Rattle.refusal.specs.Refused.{Answer, result, refused, refuseIf, andThen}
+use Rattle.refusal.proofs.Answers.{same-result, same-refusal, not-result, not-refused, passed, went-on}
+use Rattle.particle.specs.declared.Particle.{Particle}
+use Rattle.particle.specs.Record.{readAnswer}
+use Rattle.spline.specs.Spline.{onAxis}
+use Rattle.apic.specs.Limits.{SizeLimits}
+use Rattle.particles.specs.declared.Totals.{Totals}
+use Rattle.particles.specs.Set.{validSize, validLength, recordAt, recordCount, onGrid, admitted, setFrom, setOf, setAnswer, checkAnswer, totalsAnswer, totalsOf}
+
+holds : {b : Bool} → b ≡ true → T b
+holds e = subst T (sym e) tt
+
+pub size-limits : (nx ny : ℕ) → validSize nx ny ≡ true → SizeLimits nx ny
+size-limits nx ny e =
+    let xy = and-yes (leb 4 nx && leb nx 48) (leb 4 ny && leb ny 48) (holds e) in
+    let x = and-yes (leb 4 nx) (leb nx 48) (xy .0) in
+    let y = and-yes (leb 4 ny) (leb ny 48) (xy .1) in
+    record {
+      x-least = leb→le 4 nx (x .0);
+      x-most = leb→le nx 48 (x .1);
+      y-least = leb→le 4 ny (y .0);
+      y-most = leb→le ny 48 (y .1);
+    }
+
+pub record LengthLimits (n : ℕ) : Type 0 where
+  pub count : n / 14 ≤ 4096
+  pub whole : 14 * (n / 14) ≡ n
+
+pub length-limits : (n : ℕ) → validLength n ≡ true → LengthLimits n
+length-limits n e =
+    let both = and-yes (eqb (n % 14) 0) (leb n 57344) (holds e) in
+    facts (eqb→eq (n % 14) 0 (both .0)) (leb→le n 57344 (both .1))
+  where
+    facts : n % 14 ≡ 0 → n ≤ 57344 → LengthLimits n
+    facts a b = record { count = omega arith; whole = omega arith }
+
+-- ---- an accepted set, record by record
+
+-- what the checks of one record say of it
+pub record Admits (nx ny least mass : ℕ) (p : Particle) : Type 0 where
+  pub on-x : T (onAxis nx (p .x))
+  pub on-y : T (onAxis ny (p .y))
+  pub above : least ≤ p .identifier
+  pub light : mass + p .mass ≤ 131072
+
+pub admitted-facts : (nx ny k least mass : ℕ) (p : Particle) {q : Particle} → admitted nx ny k least mass p ≡ result q → (p ≡ q) × Admits nx ny least mass p
+unfolding admitted
+admitted-facts nx ny k least mass p e =
+    let a = passed (not (onGrid nx ny p)) 7 k _ e in
+    let b = passed (ltb (p .identifier) least) 8 k _ (a .1) in
+    let c = passed (ltb 131072 (mass + p .mass)) 9 k _ (b .1) in
+    let on = and-yes (onAxis nx (p .x)) (onAxis ny (p .y)) (holds (not-false (onGrid nx ny p) (a .0))) in (
+      same-result (c .1),
+      record {
+        on-x = on .0;
+        on-y = on .1;
+        above = ltb-false (p .identifier) least (b .0);
+        light = ltb-false 131072 (mass + p .mass) (c .0);
+      },
+    )
+
+-- an accepted set begins with an accepted record, and the others are accepted after it
+pub record Taken (nx ny start : ℕ) (bytes : List ℕ) (left k least mass : ℕ) (ps : List Particle) : Type 0 where
+  pub head : Particle
+  pub tail : List Particle
+  pub is : head ∷ tail ≡ ps
+  pub read : readAnswer k (recordAt start bytes k) ≡ result head
+  pub admits : Admits nx ny least mass head
+  pub rest : setFrom nx ny start bytes left (suc k) (suc (head .identifier)) (mass + head .mass) ≡ result tail
+
+pub taken : (nx ny start : ℕ) (bytes : List ℕ) (left k least mass : ℕ) {ps : List Particle} → setFrom nx ny start bytes (suc left) k least mass ≡ result ps → Taken nx ny start bytes left k least mass ps
+unfolding setFrom
+taken nx ny start bytes left k least mass {ps} e =
+    let a = went-on (readAnswer k (recordAt start bytes k)) _ e in
+    let b = went-on (admitted nx ny k least mass (a .0)) _ (a .2) in
+    let c = went-on (setFrom nx ny start bytes left (suc k) (suc (b .0 .identifier)) (mass + b .0 .mass)) _ (b .2) in
+    let facts = admitted-facts nx ny k least mass (a .0) (b .1) in
+    record {
+      head = b .0;
+      tail = c .0;
+      is = same-result (c .2);
+      read = a .1 ∙ ap result (facts .0);
+      admits = subst (Admits nx ny least mass) (facts .0) (facts .1);
+      rest = c .1;
+    }
+
+pub counted : (nx ny start : ℕ) (bytes : List ℕ) (left k least mass : ℕ) {ps : List Particle} → setFrom nx ny start bytes left k least mass ≡ result ps → length ps ≡ left
+unfolding setFrom
+counted nx ny start bytes zero k least mass e = ap length (sym (same-result e))
+counted nx ny start bytes (suc left) k least mass e =
+    let t = taken nx ny start bytes left k least mass e in
+    ap length (sym (t .is)) ∙ ap suc (counted nx ny start bytes left (suc k) (suc (t .head .identifier)) (mass + t .head .mass) (t .rest))
+
+-- ---- the operations' answers
+
+module _ (nx ny : ℕ) (bytes : List ℕ) where
+  pub bad-size : validSize nx ny ≡ false → totalsAnswer nx ny bytes ≡ refused 2 0
+  bad-size e = rw e
+
+  pub bad-length : validSize nx ny ≡ true → validLength (length bytes) ≡ false → totalsAnswer nx ny bytes ≡ refused 1 0
+  bad-length e f = rw (e, f)
+
+  pub good-entry : validSize nx ny ≡ true → validLength (length bytes) ≡ true → setAnswer nx ny bytes ≡ setOf nx ny 0 bytes (recordCount bytes)
+  good-entry e f = rw (e, f)
+
+  -- an accepted set passed the checks at entry
+  pub record Entered (ps : List Particle) : Type 0 where
+    pub size : validSize nx ny ≡ true
+    pub whole : validLength (length bytes) ≡ true
+    pub set : setOf nx ny 0 bytes (recordCount bytes) ≡ result ps
+
+  pub entered : {ps : List Particle} → setAnswer nx ny bytes ≡ result ps → Entered ps
+  entered e =
+      let a = passed (not (validSize nx ny)) 2 0 _ e in
+      let b = passed (not (validLength (length bytes))) 1 0 _ (a .1) in
+      record { size = not-false (validSize nx ny) (a .0); whole = not-false (validLength (length bytes)) (b .0); set = b .1 }
+
+  pub checked-sums : {t : Totals} → totalsAnswer nx ny bytes ≡ result t → checkAnswer nx ny bytes ≡ result (recordCount bytes)
+  checked-sums e =
+      let a = went-on (setAnswer nx ny bytes) (λ ps. result (totalsOf ps)) e in
+      ap (λ b. andThen b (λ ps. result (length ps))) (a .1)
+      ∙ ap result (counted nx ny 0 bytes (recordCount bytes) 0 0 0 (entered (a .1) .set))
+
+  pub checked-refused : {n k : ℕ} → totalsAnswer nx ny bytes ≡ refused n k → checkAnswer nx ny bytes ≡ refused n k
+  checked-refused e = go (setAnswer nx ny bytes) e
+    where
+      go : (a : Answer (List Particle)) {n k : ℕ} → andThen a (λ ps. result (totalsOf ps)) ≡ refused n k → andThen a (λ ps. result (length ps)) ≡ refused n k
+      go (result ps) e = not-refused e
+      go (refused n′ k′) e = same-refusal e

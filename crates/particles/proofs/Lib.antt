@@ -1,0 +1,5 @@
+pub mod Held
+pub mod Shares
+pub mod Admitted
+pub mod Turns
+pub mod Checks

@@ -1,0 +1,35 @@
+-- `particles::plus_of` meets its contract: each sum fits, as its caller says. Assumes nothing.
+use Prim.Native.Nat.{_+_}
+use borrow.Author.Needs.{needs}
+use Rattle.particles.proofs.Held.{sum-fits, sum-held}
+use Rattle.particles.proofs.plus_of.Statement.{statement}
+use Rattle.particles.proofs.plus_of.Tie as tie
+
+add-t3 : tie.Need-add-t3
+add-t3 c = search needs
+
+add-t4 : tie.Need-add-t4
+add-t4 c = search needs
+
+add-t5 : tie.Need-add-t5
+add-t5 c = search needs
+
+add-t6 : tie.Need-add-t6
+add-t6 c = sum-fits (c .before .before .before .before .before .before .before .before .before .before .before .before .before .before .args .s .spin) (c .before .before .before .before .before .before .before .before .before .before .before .before .before .before .args .t .spin) (c .before .before .before .before .before .before .before .before .before .before .struct-told .given .1 .1 .1 .0 .1) (c .before .before .before .before .before .before .before .before .struct-told2 .given .1 .1 .1 .0 .1) (c .before .before .before .before .before .before .before .before .before .before .before .before .before .before .pre .spin)
+
+add-t7 : tie.Need-add-t7
+add-t7 c = sum-fits (c .before .before .before .before .before .before .before .before .before .before .before .before .before .before .before .before .before .before .args .s .motion) (c .before .before .before .before .before .before .before .before .before .before .before .before .before .before .before .before .before .before .args .t .motion) (c .before .before .before .before .before .before .before .before .before .before .before .before .before .before .struct-told .given .1 .1 .1 .1 .0 .1) (c .before .before .before .before .before .before .before .before .before .before .before .before .struct-told2 .given .1 .1 .1 .1 .0 .1) (c .before .before .before .before .before .before .before .before .before .before .before .before .before .before .before .before .before .before .pre .motion)
+
+returns : tie.Need-returns
+returns c =
+    λ i.
+    record {
+      mass = c .before .before .before .before .before .before .before .before .before .before .before .before .before .before .before .before .before .before .args .s .mass + c .before .before .before .before .before .before .before .before .before .before .before .before .before .before .before .before .before .before .args .t .mass;
+      px = sum-held (c .before .before .before .before .before .before .before .before .before .before .before .before .before .before .before .before .before .before .args .s .px) (c .before .before .before .before .before .before .before .before .before .before .before .before .before .before .before .before .before .before .args .t .px) (c .before .before .before .before .before .before .before .before .before .before .before .before .before .before .struct-told .given .1 .0 .1) (c .before .before .before .before .before .before .before .before .before .before .before .before .struct-told2 .given .1 .0 .1) (c .before .before .before .before .before .before .before .before .before .before .before .before .before .before .before .before .before .before .pre .px) i;
+      py = sum-held (c .before .before .before .before .before .before .before .before .before .before .before .before .before .before .before .before .before .before .args .s .py) (c .before .before .before .before .before .before .before .before .before .before .before .before .before .before .before .before .before .before .args .t .py) (c .before .before .before .before .before .before .before .before .before .before .before .before .before .before .struct-told .given .1 .1 .0 .1) (c .before .before .before .before .before .before .before .before .before .before .before .before .struct-told2 .given .1 .1 .0 .1) (c .before .before .before .before .before .before .before .before .before .before .before .before .before .before .before .before .before .before .pre .py) i;
+      spin = sum-held (c .before .before .before .before .before .before .before .before .before .before .before .before .before .before .before .before .before .before .args .s .spin) (c .before .before .before .before .before .before .before .before .before .before .before .before .before .before .before .before .before .before .args .t .spin) (c .before .before .before .before .before .before .before .before .before .before .before .before .before .before .struct-told .given .1 .1 .1 .0 .1) (c .before .before .before .before .before .before .before .before .before .before .before .before .struct-told2 .given .1 .1 .1 .0 .1) (c .before .before .before .before .before .before .before .before .before .before .before .before .before .before .before .before .before .before .pre .spin) i;
+      motion = sum-held (c .before .before .before .before .before .before .before .before .before .before .before .before .before .before .before .before .before .before .args .s .motion) (c .before .before .before .before .before .before .before .before .before .before .before .before .before .before .before .before .before .before .args .t .motion) (c .before .before .before .before .before .before .before .before .before .before .before .before .before .before .struct-told .given .1 .1 .1 .1 .0 .1) (c .before .before .before .before .before .before .before .before .before .before .before .before .struct-told2 .given .1 .1 .1 .1 .0 .1) (c .before .before .before .before .before .before .before .before .before .before .before .before .before .before .before .before .before .before .pre .motion) i;
+    }
+
+pub plus-of-spec : {M : Type 1} → statement M
+plus-of-spec = tie.close (tie.spec add-t3 add-t4 add-t5 add-t6 add-t7 returns)

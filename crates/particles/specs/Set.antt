@@ -1,0 +1,91 @@
+-- Document 01, "Check a set" and "Totals": the walk over the records of a set, and the two operations' answers.
+-- A set's records lie one after the other from a byte `start` on. Assumes nothing.
+use mathlib.Core.Bool.{Bool, not, _&&_}
+use mathlib.Core.List.{List, [], _∷_}
+use Prim.Native.Nat.{ℕ, zero, suc, _+_, _*_, _/_, _%_}
+use lib.Dec.{leb, ltb, eqb}
+use lib.ListN.{length, take, drop}
+use Rattle.refusal.specs.Refused.{Answer, result, refusedBy, refuseIf, andThen}
+use Rattle.spline.specs.Spline.{onAxis}
+use Rattle.particle.specs.declared.Particle.{Particle}
+use Rattle.particle.specs.Layout.{recordLength}
+use Rattle.particle.specs.Record.{readAnswer}
+use Rattle.apic.specs.Step.{alongX, alongY}
+use Rattle.apic.specs.Totals.{totalMass, momentum, angularMomentum, motion}
+use Rattle.particles.specs.declared.Totals.{Totals}
+use Rattle.particles.specs.declared.Checked.{Checked}
+use Rattle.particles.specs.declared.Checked.the-variants as checked
+use Rattle.particles.specs.declared.Totalled.{Totalled}
+use Rattle.particles.specs.declared.Totalled.the-variants as totalled
+
+-- ---- the set: for each record 4, 5, 6, 7, 8, 9
+
+-- the record with index k
+abbrev pub recordAt : ℕ → List ℕ → ℕ → List ℕ
+recordAt start bytes k = take recordLength (drop (start + recordLength * k) bytes)
+
+abbrev pub onGrid : ℕ → ℕ → Particle → Bool
+onGrid nx ny p = onAxis nx (p .x) && onAxis ny (p .y)
+
+-- 7 off the grid, 8 identifier not above the one before, 9 mass so far above 131,072; `least` is one more than the
+-- identifier before, and 0 at the first record
+unfoldable pub admitted : ℕ → ℕ → ℕ → ℕ → ℕ → Particle → Answer Particle
+admitted nx ny k least mass p =
+    refuseIf (not (onGrid nx ny p)) 7 k
+    (refuseIf (ltb (p .identifier) least) 8 k (refuseIf (ltb 131072 (mass + p .mass)) 9 k (result p)))
+
+-- the particles of the records from index k on, of which `left` are left
+unfoldable pub setFrom : ℕ → ℕ → ℕ → List ℕ → ℕ → ℕ → ℕ → ℕ → Answer (List Particle)
+setFrom nx ny start bytes zero k least mass = result []
+setFrom nx ny start bytes (suc left) k least mass =
+    andThen (readAnswer k (recordAt start bytes k))
+    (λ p.
+    andThen (admitted nx ny k least mass p)
+    (λ q.
+    andThen (setFrom nx ny start bytes left (suc k) (suc (q .identifier)) (mass + q .mass)) (λ ps. result (q ∷ ps))))
+
+abbrev pub setOf : ℕ → ℕ → ℕ → List ℕ → ℕ → Answer (List Particle)
+setOf nx ny start bytes count = setFrom nx ny start bytes count 0 0 0
+
+-- ---- the operations
+
+-- Nx and Ny are 4 to 48
+abbrev pub validSize : ℕ → ℕ → Bool
+validSize nx ny = (leb 4 nx && leb nx 48) && (leb 4 ny && leb ny 48)
+
+-- a length in bytes is a multiple of 14 and at most 57,344
+abbrev pub validLength : ℕ → Bool
+validLength n = eqb (n % recordLength) 0 && leb n 57344
+
+abbrev pub recordCount : List ℕ → ℕ
+recordCount bytes = length bytes / recordLength
+
+abbrev pub setAnswer : ℕ → ℕ → List ℕ → Answer (List Particle)
+setAnswer nx ny bytes =
+    refuseIf (not (validSize nx ny)) 2 0 (refuseIf (not (validLength (length bytes))) 1 0 (setOf nx ny 0 bytes (recordCount bytes)))
+
+-- "Check a set": the result is the number of records
+abbrev pub checkAnswer : ℕ → ℕ → List ℕ → Answer ℕ
+checkAnswer nx ny bytes = andThen (setAnswer nx ny bytes) (λ ps. result (length ps))
+
+abbrev pub toldChecked : Checked → Answer ℕ
+toldChecked (checked.Records n) = result n
+toldChecked (checked.Refused e) = refusedBy e
+
+-- "Totals"
+abbrev pub totalsOf : List Particle → Totals
+totalsOf ps =
+    record {
+      mass = totalMass ps;
+      px = momentum alongX ps;
+      py = momentum alongY ps;
+      spin = angularMomentum ps;
+      motion = motion ps;
+    }
+
+abbrev pub totalsAnswer : ℕ → ℕ → List ℕ → Answer Totals
+totalsAnswer nx ny bytes = andThen (setAnswer nx ny bytes) (λ ps. result (totalsOf ps))
+
+abbrev pub toldTotalled : Totalled → Answer Totals
+toldTotalled (totalled.Sums t) = result t
+toldTotalled (totalled.Refused e) = refusedBy e
