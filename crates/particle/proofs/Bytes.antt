@@ -1,27 +1,15 @@
 -- The code's formula for each byte of a record: the byte of the number that the fields' parts make.
---     Parts         ten parts, each below the power of its width
 --     byte-..       one law for each byte, and all of them as `bytes`
 -- Assumes nothing.
-use Prim.Native.Nat.{ℕ, _+_, _*_, _/_, _%_, _^_, _<_}
+use Prim.Native.Nat.{ℕ, _+_, _*_, _/_, _%_, _^_}
 use native.Mathlib.Omega.{arith}
 use mathlib.Core.Path.{_≡_}
 use mathlib.Core.List.{List, [], _∷_}
 use Rattle.particle.specs.Bits.{cut, join, widths}
+use Rattle.particle.specs.Internal.{Below}
 use Rattle.particle.specs.Layout.{layout, byteWidths}
 
-pub record Parts (identifier mass x y vx vy bxx bxy byx byy : ℕ) : Type 0 where
-  pub identifier-below : identifier < 2 ^ 16
-  pub mass-below : mass < 2 ^ 10
-  pub x-below : x < 2 ^ 12
-  pub y-below : y < 2 ^ 12
-  pub vx-below : vx < 2 ^ 7
-  pub vy-below : vy < 2 ^ 7
-  pub bxx-below : bxx < 2 ^ 12
-  pub bxy-below : bxy < 2 ^ 12
-  pub byx-below : byx < 2 ^ 12
-  pub byy-below : byy < 2 ^ 12
-
-module _ (identifier mass x y vx vy bxx bxy byx byy : ℕ) (below : Parts identifier mass x y vx vy bxx bxy byx byy) where
+module _ (identifier mass x y vx vy bxx bxy byx byy : ℕ) (below : Below (widths layout) (identifier ∷ mass ∷ x ∷ y ∷ vx ∷ vy ∷ bxx ∷ bxy ∷ byx ∷ byy ∷ [])) where
   abbrev number : ℕ
   number = join (widths layout) (identifier ∷ mass ∷ x ∷ y ∷ vx ∷ vy ∷ bxx ∷ bxy ∷ byx ∷ byy ∷ [])
 

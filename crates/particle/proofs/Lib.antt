@@ -1,6 +1,9 @@
 pub mod Bytes
+pub mod Example
 pub mod Fields
 pub mod Flags
+pub mod Parts
+pub mod RoundTrip
 pub mod Signed
 pub mod Valid
 pub mod Writing

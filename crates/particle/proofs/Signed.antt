@@ -3,16 +3,19 @@
 use Prim.Native.Nat.{ℕ, zero, suc, _+_, _-_, _^_, _<_, _≤_, zero-le}
 use native.Mathlib.Nat.{le-refl}
 use native.Mathlib.Omega.{arith}
+use native.Mathlib.Decide.{decLt}
+use mathlib.Core.Logic.{_⊎_, inl, inr, ⊎-elim}
 use mathlib.Core.Path.{_≡_, refl, sym, subst, ap, _∙_}
 use mathlib.Core.Bool.{true, false, cond}
-use borrow.Author.Tests.{lt-ltb, le-ltb}
+use borrow.Author.Tests.{lt-ltb, le-ltb, le-leb, lt-leb, leb-false}
 use mir.Syntax.{w16}
 use mir.Val.{toZ, ofZ}
 use mir.Facts.{toZ-ofZ}
-use lib.Dec.{T}
+use lib.Dec.{T, leb}
 use lib.Signed.{mag, ltZ}
-use lib.IntN.{ℤ, pos, negsuc, natAbs, _+ℤ_, _-ℤ_}
+use lib.IntN.{ℤ, pos, negsuc, negℤ, natAbs, _+ℤ_, _-ℤ_}
 use Rattle.particle.specs.Bits.{twosComplement, residue}
+use Rattle.particle.specs.Record.{isℤ}
 
 -- an i16 is what its bits stand for
 pub back : (z : ℤ) → mag z < 2 ^ 15 → toZ w16 (ofZ w16 z) ≡ z
@@ -44,3 +47,43 @@ residue-negative span (negsuc n) h t = simp (le-ltb span (suc n) h)
 pub residue-positive : (span : ℕ) (z : ℤ) → ltZ z (pos 0) ≡ false → z ≡ pos (residue span z)
 residue-positive span (pos n) t = refl
 residue-positive span (negsuc n) t = absurd (subst T t tt)
+
+-- ---- two's complement and back
+
+pub decoded-residue : (half : ℕ) (z : ℤ) → mag z < half → twosComplement half (residue (half + half) z) ≡ z
+decoded-residue half (pos n) h = lower-half half n h
+decoded-residue half (negsuc n) h =
+    let d = half + half - suc n in
+    upper-half half d (omega arith) (omega arith) ∙ ap negsuc (omega arith)
+
+-- a part in the lower or in the upper half
+halves : (half d : ℕ) → (d < half) ⊎ (half ≤ d)
+halves half d = elim (decLt d half) [ yes h ↦ inl h | no h ↦ inr (omega arith) ]
+
+pub residue-decoded : (half d : ℕ) → d < half + half → residue (half + half) (twosComplement half d) ≡ d
+residue-decoded half d h =
+    ⊎-elim
+    (λ low. ap (residue (half + half)) (lower-half half d low))
+    (λ up. ap (residue (half + half)) (upper-half half d up h) ∙ omega arith)
+    (halves half d)
+
+-- ---- the lowest number of a width
+
+pub above-lowest : (k : ℕ) (z : ℤ) → natAbs z < k → isℤ (negℤ (pos k)) z ≡ false
+above-lowest zero z h = absurd (omega arith)
+above-lowest (suc m) (pos n) h = refl
+above-lowest (suc m) (negsuc n) h = simp (le-leb n m (omega arith), lt-leb m n (omega arith))
+
+pub size : (k : ℕ) (z : ℤ) → mag z < k → isℤ (negℤ (pos k)) z ≡ false → natAbs z < k
+size k (pos n) h e = h
+size zero (negsuc n) h e = absurd (omega arith)
+size (suc m) (negsuc n) h e =
+    let rest : leb m n ≡ false = simp (le-leb n m (omega arith)) at e in
+    omega (arith, leb-false m n rest)
+
+pub decoded-mag : (half d : ℕ) → d < half + half → mag (twosComplement half d) < half
+decoded-mag half d h =
+    ⊎-elim
+    (λ low. rw (lower-half half d low) low)
+    (λ up. rw (upper-half half d up h) (omega arith))
+    (halves half d)

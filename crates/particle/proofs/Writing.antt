@@ -1,14 +1,22 @@
--- The three ways of a write: the length is wrong, the particle is refused, or the record is written. Each gives the answer and the buffer.
+-- The answer of a write, by the length and the particle, and the buffer that goes with it.
 -- Assumes nothing.
 use Prim.Native.Nat.{ℕ}
-use mathlib.Core.Path.{_≡_, ap, _∙_}
+use mathlib.Core.Path.{_≡_, refl, ap}
+use mathlib.Core.Bool.{Bool, true, false, not}
 use mathlib.Core.List.{List}
-use borrow.Author.Tests.{eq-eqb, ne-eqb}
+use borrow.Author.Tests.{eq-eqb, ne-eqb, eqb-true}
+use lib.Dec.{eqb}
 use lib.ListN.{length}
-use Rattle.refusal.specs.Refused.{Answer, result, refused}
+use Rattle.refusal.specs.Refused.{Answer, result, refused, refuseIf}
 use Rattle.particle.specs.declared.Particle.{Particle}
 use Rattle.particle.specs.Layout.{recordLength}
 use Rattle.particle.specs.Record.{recordOf, writeParticle, writeAnswer, written, keptUnless}
+use Rattle.particle.proofs.Valid.{never}
+
+-- a check that lets a result pass did not refuse
+let-pass : (l : Bool) {rest : Answer Unit} → refuseIf (not l) 1 0 rest ≡ result tt → (l ≡ true) × (rest ≡ result tt)
+let-pass true e = (refl, e)
+let-pass false e = absurd (never e)
 
 module _ (p : Particle) (bytes : List ℕ) where
   -- the buffer follows from the answer
@@ -23,3 +31,9 @@ module _ (p : Particle) (bytes : List ℕ) where
   pub judged : length bytes ≡ recordLength → writeAnswer p bytes ≡ writeParticle p
   unfolding writeAnswer
   judged h = simp (eq-eqb (length bytes) recordLength h)
+
+  pub allowed : writeAnswer p bytes ≡ result tt → (length bytes ≡ recordLength) × (writeParticle p ≡ result tt)
+  unfolding writeAnswer
+  allowed e =
+      let t = let-pass (eqb (length bytes) recordLength) {rest = writeParticle p} e in
+      (eqb-true (length bytes) recordLength (t .0), t .1)

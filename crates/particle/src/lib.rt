@@ -1,14 +1,16 @@
 // A particle record of 14 bytes: read and written, bit for bit.
 mod bits;
-mod limits;
+pub mod limits;
 
 use refusal::Refusal;
 ghost use mathlib.Core.Path.{_≡_};
-ghost use mathlib.Core.Bool.{_&&_, _||_};
-ghost use lib.IntN.{pos, negℤ};
+ghost use mathlib.Core.List.{[], _∷_};
 ghost use lib.ListN.{length};
 ghost use Rattle.refusal.specs.Refused.{result};
-ghost use Rattle.particle.specs.Record.{particleOf, recordOf, isℤ, validMass, validVelocity, validAffine, validPosition, readParticle, readAnswer, toldRead, writeParticle, writeAnswer, written, toldWritten};
+ghost use Rattle.particle.specs.Bits.{cut, join, widths};
+ghost use Rattle.particle.specs.Internal.{Below};
+ghost use Rattle.particle.specs.Layout.{layout, byteWidths, recordLength};
+ghost use Rattle.particle.specs.Record.{particleOf, recordOf, readParticle, readAnswer, toldRead, writeParticle, writeAnswer, written, toldWritten};
 
 // The length of a particle record in bytes.
 pub const RECORD_LENGTH: usize = 14;
@@ -38,7 +40,7 @@ pub enum Written {
 
 // The particle that a record holds. `read_at` calls it with a record of the right length.
 fn unpack(bytes: &[u8]) -> Particle
-    requires { ⌜ length (now bytes) ≡ 14 ⌝ }
+    requires { ⌜ length (now bytes) ≡ recordLength ⌝ }
     ensures { λ r. ⌜ r ≡ particleOf (now (bytes .entry)) ⌝ }
 {
     Particle {
@@ -113,25 +115,30 @@ fn allow(p: Particle) -> Written
     Written::Done
 }
 
-// The record that holds a particle. `write_record` calls it with a particle that it accepts.
-fn pack(p: Particle) -> [u8; 14]
-    requires { ⌜ writeParticle p ≡ result tt ⌝ }
-    ensures { λ r. ⌜ r ≡ recordOf p ⌝ }
+// The bytes of a record with these parts in its fields. `pack` calls it with parts that the fields hold.
+fn bytes_of(
+    identifier: u16,
+    mass: u16,
+    x: u16,
+    y: u16,
+    vx: u16,
+    vy: u16,
+    bxx: u16,
+    bxy: u16,
+    byx: u16,
+    byy: u16,
+) -> [u8; RECORD_LENGTH]
+    requires { ⌜ Below (widths layout) (identifier ∷ mass ∷ x ∷ y ∷ vx ∷ vy ∷ bxx ∷ bxy ∷ byx ∷ byy ∷ []) ⌝ }
+    ensures { λ r. ⌜ r ≡ cut byteWidths (join (widths layout) (identifier ∷ mass ∷ x ∷ y ∷ vx ∷ vy ∷ bxx ∷ bxy ∷ byx ∷ byy ∷ [])) ⌝ }
 {
-    let vx = bits::residue(p.vx, 128);
-    let vy = bits::residue(p.vy, 128);
-    let bxx = bits::residue(p.bxx, 4096);
-    let bxy = bits::residue(p.bxy, 4096);
-    let byx = bits::residue(p.byx, 4096);
-    let byy = bits::residue(p.byy, 4096);
     [
-        bits::byte(0, 1, p.identifier, 256),
-        bits::byte(0, 1, p.identifier, 1),
-        bits::byte(0, 1, p.mass, 4),
-        bits::byte(p.mass, 64, p.x, 64),
-        bits::byte(p.x, 4, p.y, 1024),
-        bits::byte(0, 1, p.y, 4),
-        bits::byte(p.y, 64, vx, 2),
+        bits::byte(0, 1, identifier, 256),
+        bits::byte(0, 1, identifier, 1),
+        bits::byte(0, 1, mass, 4),
+        bits::byte(mass, 64, x, 64),
+        bits::byte(x, 4, y, 1024),
+        bits::byte(0, 1, y, 4),
+        bits::byte(y, 64, vx, 2),
         bits::byte(vx, 128, vy, 1),
         bits::byte(0, 1, bxx, 16),
         bits::byte(bxx, 16, bxy, 256),
@@ -142,9 +149,23 @@ fn pack(p: Particle) -> [u8; 14]
     ]
 }
 
+// The record that holds a particle. `write_record` calls it with a particle that it accepts.
+fn pack(p: Particle) -> [u8; RECORD_LENGTH]
+    requires { ⌜ writeParticle p ≡ result tt ⌝ }
+    ensures { λ r. ⌜ r ≡ recordOf p ⌝ }
+{
+    let vx = bits::residue(p.vx, 128);
+    let vy = bits::residue(p.vy, 128);
+    let bxx = bits::residue(p.bxx, 4096);
+    let bxy = bits::residue(p.bxy, 4096);
+    let byx = bits::residue(p.byx, 4096);
+    let byy = bits::residue(p.byy, 4096);
+    bytes_of(p.identifier, p.mass, p.x, p.y, vx, vy, bxx, bxy, byx, byy)
+}
+
 // Copies a record into a buffer of its length.
 fn store(source: &[u8], bytes: &mut [u8])
-    requires { ⌜ (length (now source) ≡ 14) × (length (now bytes) ≡ 14) ⌝ }
+    requires { ⌜ (length (now source) ≡ recordLength) × (length (now bytes) ≡ recordLength) ⌝ }
     ensures { λ _. ⌜ now (bytes .exit) ≡ now (source .entry) ⌝ }
 {
     let mut i = 0;
