@@ -1,7 +1,7 @@
 -- Document 01, "Check a set" and "Totals": the walk over the records of a set, and the two operations' answers.
 -- A set's records lie one after the other from a byte `start` on. Assumes nothing.
 use mathlib.Core.Bool.{Bool, not, _&&_}
-use mathlib.Core.List.{List, [], _∷_}
+use mathlib.Core.List.{List, [], _∷_, _++_}
 use Prim.Native.Nat.{ℕ, zero, suc, _+_, _*_, _/_, _%_}
 use lib.Dec.{leb, ltb, eqb}
 use lib.ListN.{length, take, drop}
@@ -9,7 +9,7 @@ use Rattle.refusal.specs.Refused.{Answer, result, refusedBy, refuseIf, andThen}
 use Rattle.spline.specs.Spline.{onAxis}
 use Rattle.particle.specs.declared.Particle.{Particle}
 use Rattle.particle.specs.Layout.{recordLength}
-use Rattle.particle.specs.Record.{readAnswer}
+use Rattle.particle.specs.Record.{readAnswer, recordOf}
 use Rattle.apic.specs.Step.{alongX, alongY}
 use Rattle.apic.specs.Totals.{totalMass, momentum, angularMomentum, motion}
 use Rattle.particles.specs.declared.Totals.{Totals}
@@ -46,6 +46,11 @@ setFrom nx ny start bytes (suc left) k least mass =
 
 abbrev pub setOf : ℕ → ℕ → ℕ → List ℕ → ℕ → Answer (List Particle)
 setOf nx ny start bytes count = setFrom nx ny start bytes count 0 0 0
+
+-- the records of particles, one after the other
+unfoldable pub recordsOf : List Particle → List ℕ
+recordsOf [] = []
+recordsOf (p ∷ ps) = recordOf p ++ recordsOf ps
 
 -- ---- the operations
 
