@@ -3,3 +3,4 @@ pub mod Shares
 pub mod Admitted
 pub mod Turns
 pub mod Checks
+pub mod Accepted
