@@ -56,7 +56,8 @@ particle-limits nx ny least mass p v i a =
       byx = v .byx-to;
       byy = v .byy-to;
       x-on = a .on-x;
-      y-on = a .on-y }
+      y-on = a .on-y;
+    }
 
 record Within (nx ny least mass : ℕ) (ps : List Particle) : Type 0 where
   each : Each (ParticleLimits nx ny) ps
@@ -76,7 +77,8 @@ module _ (nx ny start : ℕ) (bytes : List ℕ) where
       (record {
         each = (particle-limits nx ny least mass (t .head) (h .valid) (h .identifier-below) (t .admits), w .each);
         rises = (t .admits .above, w .rises);
-        light = regroup mass (t .head .mass) (totalMass (t .tail)) (w .light) })
+        light = regroup mass (t .head .mass) (totalMass (t .tail)) (w .light);
+      })
     where
       regroup : (a b c : ℕ) → a + b + c ≤ 131072 → a + (b + c) ≤ 131072
       regroup a b c h = omega arith
@@ -92,7 +94,8 @@ accepted-limits nx ny bytes {ps} e =
       count = rw c (l .count);
       each = w .each;
       rising = rising 0 ps (w .rises);
-      mass = rw (zero-add (totalMass ps)) at (w .light) }
+      mass = rw (zero-add (totalMass ps)) at (w .light);
+    }
 
 -- ---- the bytes are the records
 
@@ -149,11 +152,12 @@ module _ (nx ny : ℕ) where
   admits : (k least mass : ℕ) (p : Particle) → ParticleLimits nx ny p → least ≤ p .identifier → mass + p .mass ≤ 131072 → admitted nx ny k least mass p ≡ result p
   unfolding admitted
   admits k least mass p l h m =
-      rw
-      (is-true (onAxis nx (p .x)) (l .x-on),
-      is-true (onAxis ny (p .y)) (l .y-on),
-      le-ltb (p .identifier) least h,
-      le-ltb 131072 (mass + p .mass) m)
+      rw (
+        is-true (onAxis nx (p .x)) (l .x-on),
+        is-true (onAxis ny (p .y)) (l .y-on),
+        le-ltb (p .identifier) least h,
+        le-ltb 131072 (mass + p .mass) m,
+      )
 
   -- a coordinate on an axis of at most 48 nodes fits its field
   on-axis-most : (n x : ℕ) → n ≤ 48 → T (onAxis n x) → x ≤ 4095
@@ -174,7 +178,8 @@ module _ (nx ny : ℕ) where
         byx-to = l .byx;
         byy-to = l .byy;
         x-to = on-axis-most nx (p .x) (sizes .x-most) (l .x-on);
-        y-to = on-axis-most ny (p .y) (sizes .y-most) (l .y-on) }
+        y-to = on-axis-most ny (p .y) (sizes .y-most) (l .y-on);
+      }
 
   first-record : (pre : List ℕ) (p : Particle) (rest : List ℕ) (start k : ℕ) → length pre ≡ start + 14 * k → recordAt start (pre ++ (recordOf p ++ rest)) k ≡ recordOf p
   first-record pre p rest start k n =
@@ -185,9 +190,10 @@ module _ (nx ny : ℕ) where
   walk-back sizes pre [] start k least mass n w = refl
   walk-back sizes pre (p ∷ ps) start k least mass n w =
       let further = walk-back sizes (pre ++ recordOf p) ps start (suc k) (suc (p .identifier)) (mass + p .mass) longer (record { each = w .each .1; rises = w .rises .1; light = regroup mass (p .mass) (totalMass ps) (w .light) }) in
-      rw
-      (ap (readAnswer k) (first-record pre p (recordsOf ps) start k n) ∙ read-of-valid p (w .each .0 .identifier) (particle-valid p sizes (w .each .0)) k,
-      admits k least mass p (w .each .0) (w .rises .0) (first mass (p .mass) (totalMass ps) (w .light)))
+      rw (
+        ap (readAnswer k) (first-record pre p (recordsOf ps) start k n) ∙ read-of-valid p (w .each .0 .identifier) (particle-valid p sizes (w .each .0)) k,
+        admits k least mass p (w .each .0) (w .rises .0) (first mass (p .mass) (totalMass ps) (w .light)),
+      )
       (ap (λ a. andThen a (λ qs. result (p ∷ qs))) (rw (append-assoc pre (recordOf p) (recordsOf ps)) at further))
     where
       first : (a b c : ℕ) → a + (b + c) ≤ 131072 → a + b ≤ 131072
@@ -222,11 +228,12 @@ limits-accepted nx ny ps l =
   where
     is-size : validSize nx ny ≡ true
     is-size =
-        rw
-        (le-leb 4 nx (l .sizes .x-least),
-        le-leb nx 48 (l .sizes .x-most),
-        le-leb 4 ny (l .sizes .y-least),
-        le-leb ny 48 (l .sizes .y-most))
+        rw (
+          le-leb 4 nx (l .sizes .x-least),
+          le-leb nx 48 (l .sizes .x-most),
+          le-leb 4 ny (l .sizes .y-least),
+          le-leb ny 48 (l .sizes .y-most),
+        )
 
     is-whole : (b n : ℕ) → b ≡ 14 * n → n ≤ 4096 → validLength b ≡ true
     is-whole b n e h = rw (eq-eqb (b % 14) 0 (omega arith), le-leb b 57344 (omega arith))

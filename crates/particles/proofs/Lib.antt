@@ -4,3 +4,4 @@ pub mod Admitted
 pub mod Turns
 pub mod Checks
 pub mod Accepted
+pub mod Refusals
