@@ -6,7 +6,7 @@
 --     write-read        after a write that is not refused, the buffer reads as the particle
 --     record-length, record-small    a record has 14 elements, each below 256
 -- Assumes nothing.
-use Prim.Native.Nat.{ℕ, suc, _+_, _%_, _^_, _≤_, _<_}
+use Prim.Native.Nat.{ℕ, _<_}
 use native.Mathlib.Nat.{mod-eq-of-lt}
 use native.Mathlib.Omega.{arith}
 use mathlib.Core.Path.{_≡_, refl, sym, ap, subst, _∙_}
@@ -14,15 +14,14 @@ use mathlib.Core.Bool.{Bool, true, false, not, _||_}
 use mathlib.Core.List.{List, [], _∷_}
 use borrow.Author.Tests.{eq-eqb, ne-eqb, eqb-true, eqb-false}
 use lib.Dec.{eqb}
-use lib.IntN.{ℤ, pos, negℤ, natAbs}
-use lib.Signed.{mag}
+use lib.IntN.{pos, negℤ, natAbs}
 use lib.ListN.{length, getD, replicate}
-use Rattle.refusal.specs.Refused.{Answer, result, refused, refuseIf}
+use Rattle.refusal.specs.Refused.{result, refuseIf}
 use Rattle.particle.specs.declared.Particle.{Particle}
-use Rattle.particle.specs.Bits.{cut, join, widths, twosComplement, residue, valueOf}
+use Rattle.particle.specs.Bits.{cut, join, widths, residue, valueOf}
 use Rattle.particle.specs.Internal.{Below}
 use Rattle.particle.specs.Layout.{layout, byteWidths, recordLength, is, held, identifier, mass, x, y, vx, vy, Bxx, Bxy, Byx, Byy}
-use Rattle.particle.specs.Record.{particleOf, recordOf, isℤ, readParticle, readAnswer, writeParticle, writeAnswer, written}
+use Rattle.particle.specs.Record.{particleOf, recordOf, isℤ, lowestVelocity, lowestAffine, readParticle, readAnswer, writeParticle, writeAnswer, written}
 use Rattle.particle.proofs.Parts.{join-cut, join-lt, cut-join, cut-below, bytes-below, below-bytes}
 use Rattle.particle.proofs.Signed.{mag-le, decoded-residue, residue-decoded, residue-lt, above-lowest, size, decoded-mag}
 use Rattle.particle.proofs.Valid.{Valid, write-valid, valid-write, never}
@@ -64,7 +63,7 @@ read-held k bytes p e =
     let q = particleOf bytes in
     let first : Bool = isℤ (negℤ (pos 2048)) (q .bxx) || isℤ (negℤ (pos 2048)) (q .bxy) in
     let second : Bool = isℤ (negℤ (pos 2048)) (q .byx) || isℤ (negℤ (pos 2048)) (q .byy) in
-    let t = none (eqb (length bytes) recordLength) (eqb (q .mass) 0) (isℤ (negℤ (pos 64)) (q .vx) || isℤ (negℤ (pos 64)) (q .vy)) (first || second) k e in
+    let t = none (eqb (length bytes) recordLength) (eqb (q .mass) 0) (lowestVelocity q) (lowestAffine q) k e in
     let v = neither (isℤ (negℤ (pos 64)) (q .vx)) (isℤ (negℤ (pos 64)) (q .vy)) (t .2) in
     let b = neither first second (t .3) in
     let b₁ = neither (isℤ (negℤ (pos 2048)) (q .bxx)) (isℤ (negℤ (pos 2048)) (q .bxy)) (b .0) in

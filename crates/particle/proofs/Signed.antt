@@ -6,7 +6,7 @@ use native.Mathlib.Omega.{arith}
 use native.Mathlib.Decide.{decLt}
 use mathlib.Core.Logic.{_⊎_, inl, inr, ⊎-elim}
 use mathlib.Core.Path.{_≡_, refl, sym, subst, ap, _∙_}
-use mathlib.Core.Bool.{true, false, cond}
+use mathlib.Core.Bool.{true, false}
 use borrow.Author.Tests.{lt-ltb, le-ltb, le-leb, lt-leb, leb-false}
 use mir.Syntax.{w16}
 use mir.Val.{toZ, ofZ}
@@ -34,6 +34,10 @@ lower-half half d h = simp (lt-ltb d half h)
 
 pub upper-half : (half d : ℕ) → half ≤ d → d < half + half → twosComplement half d ≡ negsuc (half + half - suc d)
 upper-half half d h k = simp (le-ltb d half h) (below-zero d (half + half) k)
+
+-- a signed field that was read: its number is that of the part
+pub signed-part : (half : ℕ) {z : ℤ} {d e : ℕ} → mag z < 2 ^ 15 → z ≡ twosComplement half d → d ≡ e → toZ w16 (ofZ w16 z) ≡ twosComplement half e
+signed-part half {z} h p q = back z h ∙ p ∙ ap (twosComplement half) q
 
 pub residue-lt : (span : ℕ) (z : ℤ) → mag z < span → residue span z < span
 residue-lt span (pos n) h = h

@@ -11,9 +11,9 @@ use borrow.Author.Tests.{leb-true, le-leb}
 use lib.Dec.{T, leb}
 use lib.IntN.{ℤ, pos, negsuc, negℤ, natAbs}
 use lib.Signed.{leZ}
-use Rattle.refusal.specs.Refused.{Answer, result, refused, refuseIf}
+use Rattle.refusal.specs.Refused.{result, refused, refuseIf}
 use Rattle.particle.specs.declared.Particle.{Particle}
-use Rattle.particle.specs.Record.{between, validMass, validVelocity, validAffine, validPosition, writeParticle}
+use Rattle.particle.specs.Record.{between, validMass, validAffine, validVelocities, validAffines, validPositions, writeParticle}
 
 pub record Valid (p : Particle) : Type 0 where
   pub mass-from : 1 ≤ p .mass
@@ -63,7 +63,7 @@ unfolding writeParticle
 write-valid p e =
     let first : Bool = validAffine (p .bxx) && validAffine (p .bxy) in
     let second : Bool = validAffine (p .byx) && validAffine (p .byy) in
-    let t = checks (validMass (p .mass)) (validVelocity (p .vx) && validVelocity (p .vy)) (first && second) (validPosition (p .x) && validPosition (p .y)) e in
+    let t = checks (validMass (p .mass)) (validVelocities p) (validAffines p) (validPositions p) e in
     let m = both (leb 1 (p .mass)) (leb (p .mass) 1023) (t .0) in
     let v = two-within 63 (p .vx) (p .vy) (t .1) in
     let b = both first second (t .2) in
@@ -99,9 +99,9 @@ valid-write p v =
     let second : Bool = validAffine (p .byx) && validAffine (p .byy) in
     checks-back
     (validMass (p .mass))
-    (validVelocity (p .vx) && validVelocity (p .vy))
-    (first && second)
-    (validPosition (p .x) && validPosition (p .y))
+    (validVelocities p)
+    (validAffines p)
+    (validPositions p)
     (both-back (leb 1 (p .mass)) (leb (p .mass) 1023) (le-leb 1 (p .mass) (v .mass-from)) (le-leb (p .mass) 1023 (v .mass-to)))
     (two-within-back 63 (p .vx) (p .vy) (v .vx-to) (v .vy-to))
     (both-back first second (two-within-back 2047 (p .bxx) (p .bxy) (v .bxx-to) (v .bxy-to)) (two-within-back 2047 (p .byx) (p .byy) (v .byx-to) (v .byy-to)))

@@ -4,7 +4,7 @@ use Prim.Native.Nat.{ℕ}
 use mathlib.Core.Bool.{Bool, not, _&&_, _||_}
 use mathlib.Core.List.{List}
 use lib.Dec.{eqb, leb}
-use lib.IntN.{ℤ, pos, negsuc, negℤ, natAbs}
+use lib.IntN.{ℤ, pos, negℤ, natAbs}
 use lib.Signed.{leZ}
 use lib.ListN.{length}
 use Rattle.refusal.specs.Refused.{Answer, result, refused, refusedBy, refuseIf}
@@ -69,15 +69,22 @@ validPosition a = leb a 4095
 abbrev pub isℤ : ℤ → ℤ → Bool
 isℤ k z = between k k z
 
+-- a velocity of −64
+abbrev pub lowestVelocity : Particle → Bool
+lowestVelocity p = isℤ (negℤ (pos 64)) (p .vx) || isℤ (negℤ (pos 64)) (p .vy)
+
+-- a B entry of −2048
+abbrev pub lowestAffine : Particle → Bool
+lowestAffine p =
+    (isℤ (negℤ (pos 2048)) (p .bxx) || isℤ (negℤ (pos 2048)) (p .bxy))
+    || (isℤ (negℤ (pos 2048)) (p .byx) || isℤ (negℤ (pos 2048)) (p .byy))
+
 -- 4 mass zero; 5 a velocity of −64; 6 a B entry of −2048
 unfoldable pub readParticle : ℕ → Particle → Answer Particle
 readParticle index p =
     refuseIf (eqb (p .mass) 0) 4 index
-    (refuseIf (isℤ (negℤ (pos 64)) (p .vx) || isℤ (negℤ (pos 64)) (p .vy)) 5 index
-    (refuseIf
-    ((isℤ (negℤ (pos 2048)) (p .bxx) || isℤ (negℤ (pos 2048)) (p .bxy))
-    || (isℤ (negℤ (pos 2048)) (p .byx) || isℤ (negℤ (pos 2048)) (p .byy)))
-    6 index
+    (refuseIf (lowestVelocity p) 5 index
+    (refuseIf (lowestAffine p) 6 index
     (result p)))
 
 -- 1 length not 14, and then the particle's; a refusal names the record with this index of its set
@@ -91,13 +98,23 @@ toldRead (read.Refused e) = refusedBy e
 
 -- ---- "Write a record"
 
+abbrev pub validVelocities : Particle → Bool
+validVelocities p = validVelocity (p .vx) && validVelocity (p .vy)
+
+abbrev pub validAffines : Particle → Bool
+validAffines p = (validAffine (p .bxx) && validAffine (p .bxy)) && (validAffine (p .byx) && validAffine (p .byy))
+
+abbrev pub validPositions : Particle → Bool
+validPositions p = validPosition (p .x) && validPosition (p .y)
+
 -- 4 mass not 1 to 1023; 5 velocity out of range; 6 B out of range; 7 x or y outside 0 to 4095
 unfoldable pub writeParticle : Particle → Answer Unit
 writeParticle p =
     refuseIf (not (validMass (p .mass))) 4 0
-    (refuseIf (not (validVelocity (p .vx) && validVelocity (p .vy))) 5 0
-    (refuseIf (not ((validAffine (p .bxx) && validAffine (p .bxy)) && (validAffine (p .byx) && validAffine (p .byy)))) 6 0
-    (refuseIf (not (validPosition (p .x) && validPosition (p .y))) 7 0 (result tt))))
+    (refuseIf (not (validVelocities p)) 5 0
+    (refuseIf (not (validAffines p)) 6 0
+    (refuseIf (not (validPositions p)) 7 0
+    (result tt))))
 
 -- 1 length not 14, and then the particle's
 unfoldable pub writeAnswer : Particle → List ℕ → Answer Unit

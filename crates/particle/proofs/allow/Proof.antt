@@ -4,7 +4,7 @@ use borrow.Author.Tests.{not-true, not-false}
 use mathlib.Core.Path.{_≡_, sym, ap₂, _∙_}
 use mathlib.Core.Bool.{Bool, _&&_}
 use lib.IntN.{ℤ, pos, negℤ}
-use Rattle.particle.specs.Record.{between, validMass, validPosition, writeParticle}
+use Rattle.particle.specs.Record.{between, writeParticle}
 use Rattle.particle.proofs.Signed.{back}
 use Rattle.particle.proofs.allow.Statement.{statement}
 use Rattle.particle.proofs.allow.Tie as tie

@@ -1,5 +1,4 @@
 -- `pack` meets its contract: each signed field's part is its residue, and the bytes are those of the parts. Assumes nothing.
-use borrow.Author.Needs.{needs}
 use native.Mathlib.Omega.{arith}
 use mathlib.Core.Path.{_≡_, ap, _∙_}
 use mathlib.Core.List.{[], _∷_}

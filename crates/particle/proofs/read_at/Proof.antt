@@ -1,7 +1,7 @@
 -- `read_at` meets its contract: the length, and then what `accept` answers of the particle that `unpack` finds. Assumes nothing.
 use borrow.Author.Needs.{needs}
 use borrow.Author.Tests.{eq-eqb, ne-eqb}
-use mathlib.Core.Path.{ap, sym, _∙_}
+use mathlib.Core.Path.{ap, _∙_}
 use Rattle.particle.specs.Record.{readAnswer, readParticle}
 use Rattle.particle.proofs.read_at.Statement.{statement}
 use Rattle.particle.proofs.read_at.Tie as tie

@@ -1,10 +1,9 @@
 use borrow.Author.Needs.{needs}
-use mathlib.Core.Path.{ap, _∙_}
+use mathlib.Core.Path.{_∙_}
 use denote.Ref.{now}
-use Rattle.particle.specs.Bits.{twosComplement}
 use Rattle.particle.specs.Record.{particleOf}
 use Rattle.particle.proofs.Fields.{Bytes, bytes, part-identifier, part-mass, part-x, part-y, part-vx, part-vy, part-Bxx, part-Bxy, part-Byx, part-Byy}
-use Rattle.particle.proofs.Signed.{back}
+use Rattle.particle.proofs.Signed.{signed-part}
 use Rattle.particle.proofs.unpack.Statement.{statement}
 use Rattle.particle.proofs.unpack.Tie as tie
 use Rattle.particle.proofs.unpack.Reads as reads
@@ -64,12 +63,12 @@ returns c =
       mass = (c .before .before .before .before .before .before .before .before .unsigned2 .ensures ∙ part-mass l known) i;
       x = (c .before .before .before .before .before .before .before .unsigned3 .ensures ∙ part-x l known) i;
       y = (c .before .before .before .before .before .before .unsigned4 .ensures ∙ part-y l known) i;
-      vx = (back (c .before .before .before .before .before .signed .result) (c .before .before .before .before .before .signed .ok) ∙ c .before .before .before .before .before .signed .ensures ∙ ap (twosComplement 64) (part-vx l known)) i;
-      vy = (back (c .before .before .before .before .signed2 .result) (c .before .before .before .before .signed2 .ok) ∙ c .before .before .before .before .signed2 .ensures ∙ ap (twosComplement 64) (part-vy l known)) i;
-      bxx = (back (c .before .before .before .signed3 .result) (c .before .before .before .signed3 .ok) ∙ c .before .before .before .signed3 .ensures ∙ ap (twosComplement 2048) (part-Bxx l known)) i;
-      bxy = (back (c .before .before .signed4 .result) (c .before .before .signed4 .ok) ∙ c .before .before .signed4 .ensures ∙ ap (twosComplement 2048) (part-Bxy l known)) i;
-      byx = (back (c .before .signed5 .result) (c .before .signed5 .ok) ∙ c .before .signed5 .ensures ∙ ap (twosComplement 2048) (part-Byx l known)) i;
-      byy = (back (c .signed6 .result) (c .signed6 .ok) ∙ c .signed6 .ensures ∙ ap (twosComplement 2048) (part-Byy l known)) i;
+      vx = signed-part 64 (c .before .before .before .before .before .signed .ok) (c .before .before .before .before .before .signed .ensures) (part-vx l known) i;
+      vy = signed-part 64 (c .before .before .before .before .signed2 .ok) (c .before .before .before .before .signed2 .ensures) (part-vy l known) i;
+      bxx = signed-part 2048 (c .before .before .before .signed3 .ok) (c .before .before .before .signed3 .ensures) (part-Bxx l known) i;
+      bxy = signed-part 2048 (c .before .before .signed4 .ok) (c .before .before .signed4 .ensures) (part-Bxy l known) i;
+      byx = signed-part 2048 (c .before .signed5 .ok) (c .before .signed5 .ensures) (part-Byx l known) i;
+      byy = signed-part 2048 (c .signed6 .ok) (c .signed6 .ensures) (part-Byy l known) i;
     }
 
 pub unpack-spec : {M : Type 1} → statement M

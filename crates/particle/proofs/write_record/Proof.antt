@@ -1,9 +1,8 @@
 -- `write_record` meets its contract: the length, then what `allow` answers of the particle, and the buffer that goes with the answer. Assumes nothing.
 use borrow.Author.Needs.{needs}
-use mathlib.Core.Path.{_≡_, sym, ap, _∙_}
+use mathlib.Core.Path.{sym, ap, _∙_}
 use denote.Ref.{now}
-use Rattle.refusal.specs.Refused.{result, refusedBy}
-use Rattle.particle.specs.Record.{writeParticle, writeAnswer, toldWritten}
+use Rattle.particle.specs.Record.{toldWritten}
 use Rattle.particle.proofs.Writing.{after, long, judged}
 use Rattle.particle.proofs.write_record.Statement.{statement}
 use Rattle.particle.proofs.write_record.Tie as tie

@@ -2,7 +2,6 @@
 use borrow.Author.Needs.{needs}
 use native.Mathlib.Omega.{arith}
 use native.Mathlib.Nat.{mod-lt}
-use Prim.Native.Nat.{_+_, _<_}
 use mathlib.Core.Path.{ap, _∙_}
 use Rattle.particle.specs.Bits.{twosComplement}
 use Rattle.particle.proofs.Signed.{back}

@@ -1,8 +1,7 @@
 -- `bits::twos_complement` meets its contract: both numbers are below half of 2^16, so their bits are the numbers themselves. Assumes nothing.
 use borrow.Author.Needs.{needs}
 use native.Mathlib.Omega.{arith}
-use Prim.Native.Nat.{_+_, _^_, _<_}
-use mathlib.Core.Path.{_≡_}
+use Prim.Native.Nat.{_+_}
 use borrow.Author.Tests.{le-ltb}
 use mir.Syntax.{w16}
 use mir.Facts.{toZ-ofZ, toZ-pos}

@@ -1,5 +1,5 @@
 -- `limits::between` meets its contract: each number is what its bits stand for. Assumes nothing.
-use mathlib.Core.Path.{_≡_, sym}
+use mathlib.Core.Path.{_≡_}
 use mathlib.Core.Bool.{true, false}
 use lib.Signed.{leZ}
 use mir.Facts.{toZ-ofZ}
