@@ -1,0 +1,23 @@
+-- The definitions compute. sixteen nodes of mass 1 with momenta 2 and −2, halves of a unit, go to 1 and −1; a node without
+-- mass stays at 0 under gravity; a refused grid stays as it was. Assumes nothing.
+use mathlib.Core.Path.{_≡_, refl}
+use mathlib.Core.List.{[], _∷_}
+use lib.ListN.{replicate, set}
+use lib.IntN.{pos, negsuc}
+use Rattle.refusal.specs.Refused.{refused}
+use Rattle.arith.specs.Rounding.{nearest}
+use Rattle.apic.specs.Step.{nodeVelocity}
+use Rattle.update.specs.Checks.{done}
+use Rattle.update.specs.Update.{checkNode, checkNodes, velocities, updateAnswer}
+
+halves : (updateAnswer 4 4 (pos 0) (pos 0) (replicate 16 1) (replicate 16 (pos 2)) (replicate 16 (negsuc 1)) ≡ done) × ((velocities 16 (pos 0) (replicate 16 1) (replicate 16 (pos 2)) ≡ replicate 16 (pos 1)) × (velocities 16 (pos 0) (replicate 16 1) (replicate 16 (negsuc 1)) ≡ replicate 16 (negsuc 0)))
+unfolding nearest nodeVelocity checkNode checkNodes velocities updateAnswer
+halves = (refl, (refl, refl))
+
+without-mass : velocities 2 (pos 7) (1 ∷ 0 ∷ []) (pos 0 ∷ pos 0 ∷ []) ≡ pos 7 ∷ pos 0 ∷ []
+unfolding nearest nodeVelocity velocities
+without-mass = refl
+
+too-heavy : updateAnswer 4 4 (pos 0) (pos 0) (set (replicate 16 1) 5 8796093022209) (replicate 16 (pos 2)) (replicate 16 (negsuc 1)) ≡ refused 11 5
+unfolding nearest nodeVelocity checkNode checkNodes updateAnswer
+too-heavy = refl

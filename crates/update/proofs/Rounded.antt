@@ -1,0 +1,79 @@
+-- Rounding of momentum/(4·mass) by its size, and the numbers on the way as the machine holds them. Assumes nothing.
+use mathlib.Core.Path.{_≡_, refl, sym, ap, _∙_, subst}
+use mathlib.Core.Bool.{true, false, true≢false}
+use mathlib.Core.List.{[]}
+use Prim.Native.Nat.{ℕ, zero, suc, _+_, _*_, _-_, _/_, _^_, _≤_, _<_}
+use native.Mathlib.Omega.{arith}
+use lib.Dec.{T}
+use lib.IntN.{ℤ, pos, negsuc, negℤ, natAbs, _-ℤ_, +ℤ-idl}
+use lib.Signed.{ltZ, nonNeg}
+use mir.Syntax.{w64}
+use mir.Val.{SFits, toZ, ofZ}
+use mir.Facts.{toZ-ofZ, toZ-pos}
+use borrow.Author.Tests.{le-ltb}
+use Rattle.arith.specs.Order.{linear, reading, nothing}
+use Rattle.arith.specs.Size.{natAbs-neg}
+use Rattle.arith.specs.Rounding.{nearest, halvesAway, nearest-half, nearest-half-neg}
+
+-- the divisor as twice a half
+twice : (m : ℕ) → 4 * m ≡ 2 * (2 * m)
+twice m = omega arith
+
+module _ (m : ℕ) (positive : 0 < m) where
+  pub rounds : (z : ℤ) → ltZ z (pos 0) ≡ false → nearest halvesAway z (4 * m) ≡ pos ((natAbs z + 2 * m) / (4 * m))
+  rounds (pos a) e = rw (twice m) (nearest-half a (2 * m) (omega arith))
+  rounds (negsuc a) e = absurd (true≢false e)
+
+  pub rounds-negative : (a : ℕ) → nearest halvesAway (negsuc a) (4 * m) ≡ negℤ (pos ((suc a + 2 * m) / (4 * m)))
+  rounds-negative a = rw (twice m) (nearest-half-neg (suc a) (2 * m) (omega arith))
+
+pub nonneg : (z : ℤ) → ltZ z (pos 0) ≡ false → T (nonNeg z)
+nonneg (pos a) e = tt
+nonneg (negsuc a) e = absurd (true≢false e)
+
+-- ---- a negative number
+
+pub record Negative (z : ℤ) : Type 0 where
+  pub less : ℕ
+  pub is : z ≡ negsuc less
+  pub small : less < 2 ^ 63
+
+pub negative : (z : ℤ) → SFits w64 z → ltZ z (pos 0) ≡ true → Negative z
+negative (pos a) h e = absurd (true≢false (sym e ∙ le-ltb a 0 (omega arith)))
+negative (negsuc a) h e = record { less = a; is = refl; small = h .sfits }
+
+-- −1 − z
+module _ (z : ℤ) (h : SFits w64 z) (n : Negative z) where
+  less-is : negsuc 0 -ℤ toZ w64 (ofZ w64 z) ≡ pos (n .less)
+  less-is = ap (λ y. negsuc 0 -ℤ y) (toZ-ofZ h ∙ n .is) ∙ minus-one (n .less)
+    where
+      minus-one : (a : ℕ) → negsuc 0 -ℤ negsuc a ≡ pos a
+      minus-one a = linear [] nothing (search reading depth 30) (omega arith)
+
+  pub less-fits : SFits w64 (negsuc 0 -ℤ toZ w64 (ofZ w64 z))
+  less-fits = subst (SFits w64) (sym less-is) (record { sfits = n .small })
+
+  pub less-held : toZ w64 (ofZ w64 (negsuc 0 -ℤ toZ w64 (ofZ w64 z))) ≡ pos (n .less)
+  less-held = toZ-ofZ less-fits ∙ less-is
+
+-- ---- a size of at most 2^62, negated
+
+module _ (r : ℕ) (small : r ≤ 2 ^ 62) where
+  pub held : toZ w64 r ≡ pos r
+  held = toZ-pos w64 (omega arith)
+
+  negated-is : pos 0 -ℤ toZ w64 r ≡ negℤ (pos r)
+  negated-is = +ℤ-idl (negℤ (toZ w64 r)) ∙ ap negℤ held
+
+  pub negated-fits : SFits w64 (pos 0 -ℤ toZ w64 r)
+  negated-fits = subst (SFits w64) (sym negated-is) (fits r small)
+    where
+      fits : (r : ℕ) → r ≤ 2 ^ 62 → SFits w64 (negℤ (pos r))
+      fits zero h = record { sfits = omega arith }
+      fits (suc r) h = record { sfits = omega arith }
+
+  pub negated : toZ w64 (ofZ w64 (pos 0 -ℤ toZ w64 r)) ≡ negℤ (pos r)
+  negated = toZ-ofZ negated-fits ∙ negated-is
+
+  pub negated-size : natAbs (negℤ (pos r)) ≤ 2 ^ 62
+  negated-size = rw (natAbs-neg (pos r)) small

@@ -1,0 +1,105 @@
+-- `update::node::rounded` meets its contract. Assumes nothing.
+use mathlib.Core.Path.{_≡_, sym, ap, _∙_, subst}
+use mathlib.Core.Bool.{true}
+use Prim.Native.Nat.{ℕ, _+_, _*_, _/_, _<_, _^_}
+use native.Mathlib.Numerals.{add-one}
+use native.Mathlib.Omega.{arith}
+use lib.Dec.{T}
+use lib.IntN.{ℤ, pos, negsuc, negℤ, natAbs, _-ℤ_}
+use lib.Signed.{ltZ, nonNeg, natAbs-le}
+use mir.Syntax.{w64}
+use mir.Val.{Fits, SFits, toZ, ofZ}
+use mir.Facts.{toZ-ofZ, fits-natAbs}
+use borrow.Author.Needs.{needs}
+use Rattle.arith.specs.Rounding.{nearest, halvesAway}
+use Rattle.update.proofs.Rounded.{rounds, rounds-negative, nonneg, Negative, negative, less-fits, less-held, held, negated-fits, negated, negated-size}
+use Rattle.update.proofs.node.rounded.Statement.{statement}
+use Rattle.update.proofs.node.rounded.Tie as tie
+
+-- below 0
+module _ (z : ℤ) (fits : SFits w64 z) (test : ltZ (toZ w64 (ofZ w64 z)) (pos 0) ≡ true) where
+  sign : Negative z
+  sign = negative z fits (subst (λ y. ltZ y (pos 0) ≡ true) (toZ-ofZ fits) test)
+
+  abbrev less : ℕ
+  less = natAbs (toZ w64 (ofZ w64 (negsuc 0 -ℤ toZ w64 (ofZ w64 z))))
+
+  less-is : less ≡ sign .less
+  less-is = ap natAbs (less-held z fits sign)
+
+  less-small : less < 2 ^ 63
+  less-small = subst (λ n. n < 2 ^ 63) (sym less-is) (sign .small)
+
+  cast-fits : T (nonNeg (toZ w64 (ofZ w64 (negsuc 0 -ℤ toZ w64 (ofZ w64 z))))) × Fits w64 less
+  cast-fits = (subst (λ y. T (nonNeg y)) (sym (less-held z fits sign)) tt, record { fits = omega (arith, less-small) })
+
+  answer : (m r : ℕ) → 0 < m → r ≡ (less + 1 + 2 * m) / (4 * m) → negℤ (pos r) ≡ nearest halvesAway z (4 * m)
+  answer m r p e =
+      ap (λ n. negℤ (pos n)) (e ∙ ap (λ n. (n + 2 * m) / (4 * m)) (ap (λ n. n + 1) less-is ∙ add-one (sign .less)))
+      ∙ sym (rounds-negative m p (sign .less))
+      ∙ ap (λ y. nearest halvesAway y (4 * m)) (sym (sign .is))
+
+sub-rounded-size : tie.Need-sub-rounded-size
+sub-rounded-size c = less-fits _ (c .before .fits .momentum) (sign _ (c .before .fits .momentum) (c .if1 .taken))
+
+cast-rounded-size : tie.Need-cast-rounded-size
+cast-rounded-size c = cast-fits _ (c .before .fits .momentum) (c .if1 .taken)
+
+add-rounded-size : tie.Need-add-rounded-size
+add-rounded-size c = record { fits = omega (arith, less-small _ (c .before .fits .momentum) (c .if1 .taken)) }
+
+rounded-size-requires : tie.Need-rounded-size-requires
+rounded-size-requires c κs = (omega (arith, less-small _ (c .before .fits .momentum) (c .if1 .taken)), c .before .pre)
+
+cast-result : tie.Need-cast-result
+cast-result c = search needs
+
+sub-result : tie.Need-sub-result
+sub-result c = negated-fits (c .rounded-size .result) (c .rounded-size .ensures .1)
+
+cast-rounded-size-2 : tie.Need-cast-rounded-size-2
+cast-rounded-size-2 c =
+    let z = c .before .args .momentum in
+    let f = c .before .fits .momentum in
+    rw (toZ-ofZ f) (nonneg z (rw (toZ-ofZ f) at (c .if1 .left)), fits-natAbs tt f)
+
+rounded-size-requires-2 : tie.Need-rounded-size-requires-2
+rounded-size-requires-2 c κs =
+    let f = c .before .fits .momentum in
+    (rw (toZ-ofZ f) (natAbs-le (c .before .args .momentum) (f .sfits)), c .before .pre)
+
+cast-result-2 : tie.Need-cast-result-2
+cast-result-2 c = search needs
+
+returns : tie.Need-returns
+returns c =
+    let s = c .before .before in
+    let r = c .rounded-size .result in
+    let h = c .rounded-size .ensures .1 in
+    let e = answer (s .args .momentum) (s .fits .momentum) (c .before .if1 .taken) (s .args .mass) r (s .pre .0) (c .rounded-size .ensures .0) in
+    (negated r h ∙ e, rw (negated r h) (negated-size r h))
+
+returns-2 : tie.Need-returns-2
+returns-2 c =
+    let s = c .before .before in
+    let f = s .fits .momentum in
+    let r = c .rounded-size2 .result in
+    let h = c .rounded-size2 .ensures .1 in
+    let e = rounds (s .args .mass) (s .pre .0) (s .args .momentum) (rw (toZ-ofZ f) at (c .before .if1 .left)) in
+    (held r h ∙ ap pos (rw (toZ-ofZ f) at (c .rounded-size2 .ensures .0)) ∙ sym e, rw (held r h) h)
+
+pub rounded-spec : {M : Type 1} → statement M
+rounded-spec =
+    tie.close
+    (tie.spec
+    sub-rounded-size
+    cast-rounded-size
+    add-rounded-size
+    rounded-size-requires
+    cast-result
+    sub-result
+    cast-rounded-size-2
+    rounded-size-requires-2
+    cast-result-2
+    returns
+    returns-2)

@@ -1,0 +1,88 @@
+-- Document 01, operation "Update": what it answers for any numbers and any buffers, and what the grids hold afterwards.
+-- Assumes nothing.
+use mathlib.Core.Path.{_≡_}
+use mathlib.Core.Bool.{Bool, not, _&&_, _||_}
+use mathlib.Core.List.{List, map}
+use Prim.Native.Nat.{ℕ, _*_, _^_, _≤_, _<_}
+use lib.Dec.{ltb, eqb}
+use lib.ListN.{length, getD}
+use lib.IntN.{ℤ, pos, natAbs}
+use Rattle.arith.specs.Sums.{upTo}
+use Rattle.arith.specs.Rounding.{nearest, halvesAway}
+use Rattle.refusal.specs.Refused.{Answer, result, refused, refusedBy, refuseIf}
+use Rattle.apic.specs.Step.{nodeVelocity}
+use Rattle.particles.specs.Set.{validSize}
+use Rattle.update.specs.declared.Updated.{Updated}
+use Rattle.update.specs.declared.Updated.the-variants.{Done, Refused}
+use Rattle.update.specs.Checks.{bothWithin, checkLengths, checkGravity, done, forEach}
+
+-- a node's velocity on one axis: momentum/(4M) rounded to nearest, halves away from zero, plus gravity; 0 where M is 0
+abbrev pub velocityOf : ℤ → ℕ → ℤ → ℤ
+velocityOf g M momentum = nodeVelocity (nearest halvesAway) g M momentum
+
+-- ---- the limits of a node
+
+-- 11: mass above 2^43, or mass 0 with momentum not 0
+abbrev pub breaksMass : ℕ → ℤ → ℤ → Bool
+breaksMass M px py = ltb (2 ^ 43) M || (eqb M 0 && (not (eqb (natAbs px) 0) || not (eqb (natAbs py) 0)))
+
+-- 12: a resulting velocity beyond ±131,072
+abbrev pub breaksVelocity : ℤ → ℤ → ℕ → ℤ → ℤ → Bool
+breaksVelocity gx gy M px py = not (bothWithin 131072 (velocityOf gx M px) (velocityOf gy M py))
+
+unfoldable pub checkNode : ℤ → ℤ → ℕ → ℕ → ℤ → ℤ → Answer Unit
+checkNode gx gy k M px py =
+    refuseIf (breaksMass M px py) 11 k (refuseIf (breaksVelocity gx gy M px py) 12 k done)
+
+-- the same as facts
+pub record NodeLimits (gx gy : ℤ) (M : ℕ) (px py : ℤ) : Type 0 where
+  pub mass : M ≤ 2 ^ 43
+  pub massless-x : M ≡ 0 → px ≡ pos 0
+  pub massless-y : M ≡ 0 → py ≡ pos 0
+  pub vx : natAbs (velocityOf gx M px) ≤ 131072
+  pub vy : natAbs (velocityOf gy M py) ≤ 131072
+
+-- ---- grids of n nodes
+
+abbrev pub checkNodeAt : ℤ → ℤ → List ℕ → List ℤ → List ℤ → ℕ → Answer Unit
+checkNodeAt gx gy mass px py k = checkNode gx gy k (getD mass k 0) (getD px k (pos 0)) (getD py k (pos 0))
+
+unfoldable pub checkNodes : ℕ → ℤ → ℤ → List ℕ → List ℤ → List ℤ → Answer Unit
+checkNodes n gx gy mass px py = forEach (checkNodeAt gx gy mass px py) 0 n
+
+-- the velocities on one axis, from the masses and the momenta
+unfoldable pub velocities : ℕ → ℤ → List ℕ → List ℤ → List ℤ
+velocities n g mass momentum = map (λ k. velocityOf g (getD mass k 0) (getD momentum k (pos 0))) (upTo n)
+
+-- grids of n nodes, gravity and every node within their limits
+pub record GridLimits (n : ℕ) (gx gy : ℤ) (mass : List ℕ) (px py : List ℤ) : Type 0 where
+  pub mass-length : length mass ≡ n
+  pub px-length : length px ≡ n
+  pub py-length : length py ≡ n
+  pub gravity-x : natAbs gx ≤ 4096
+  pub gravity-y : natAbs gy ≤ 4096
+  pub nodes : (k : ℕ) → k < n → NodeLimits gx gy (getD mass k 0) (getD px k (pos 0)) (getD py k (pos 0))
+
+-- ---- the operation
+
+abbrev pub toldUpdate : Updated → Answer Unit
+toldUpdate Done = done
+toldUpdate (Refused e) = refusedBy e
+
+-- 2; 1 for the grid buffers; 10; then for each node 11, 12
+unfoldable pub updateAnswer : ℕ → ℕ → ℤ → ℤ → List ℕ → List ℤ → List ℤ → Answer Unit
+updateAnswer nx ny gx gy mass px py =
+    refuseIf (not (validSize nx ny)) 2 0
+    (checkLengths (nx * ny) (length mass) (length px) (length py)
+    (checkGravity gx gy (checkNodes (nx * ny) gx gy mass px py)))
+
+-- a momentum grid afterwards: velocity takes the momentum's place; a refused call leaves it unchanged
+abbrev pub updatedGrid : Answer Unit → List ℤ → List ℤ → List ℤ
+updatedGrid (result _) velocity momentum = velocity
+updatedGrid (refused n k) velocity momentum = momentum
+
+-- the answer of a call, and both grids as it leaves them
+pub record UpdateIs (nx ny : ℕ) (gx gy : ℤ) (mass : List ℕ) (px py : List ℤ) (told : Answer Unit) (px-after py-after : List ℤ) : Type 0 where
+  pub answer : told ≡ updateAnswer nx ny gx gy mass px py
+  pub px-is : px-after ≡ updatedGrid (updateAnswer nx ny gx gy mass px py) (velocities (nx * ny) gx mass px) px
+  pub py-is : py-after ≡ updatedGrid (updateAnswer nx ny gx gy mass px py) (velocities (nx * ny) gy mass py) py

@@ -1,0 +1,90 @@
+// The update of a grid's nodes: velocity takes the momentum's place, after gravity.
+pub mod checks;
+mod node;
+
+ghost use mathlib.Core.Path.{_≡_};
+ghost use Prim.Native.Nat.{ℕ, _<_, _≤_, _^_};
+ghost use lib.ListN.{length, getD};
+ghost use lib.IntN.{natAbs};
+ghost use Rattle.update.specs.Update.{toldUpdate, checkNodes, velocities, GridLimits, UpdateIs};
+use refusal::Refusal;
+
+pub enum Updated {
+    Done,
+    Refused(Refusal),
+}
+
+// Looks at every node and changes none. `update` calls it.
+fn check_nodes(count: usize, gx: i64, gy: i64, mass: &[u64], px: &[i64], py: &[i64]) -> Updated
+    requires { ⌜ (length (now mass) ≡ count) × ((length (now px) ≡ count) × (length (now py) ≡ count)) ⌝ }
+    requires { ⌜ (natAbs gx ≤ 4096) × (natAbs gy ≤ 4096) ⌝ }
+    ensures { λ r. ⌜ toldUpdate r ≡ checkNodes count gx gy (now (mass .entry)) (now (px .entry)) (now (py .entry)) ⌝ }
+{
+    let mut k = 0;
+    while k < count {
+        let checked = node::check(k, gx, gy, mass[k], px[k], py[k]);
+        match checked {
+            Updated::Done => {}
+            Updated::Refused(refusal) => return Updated::Refused(refusal),
+        }
+        k += 1;
+    }
+    Updated::Done
+}
+
+// One axis of every node. `update_all` calls it for x and for y.
+fn update_axis(count: usize, gravity: i64, mass: &[u64], momentum: &mut [i64])
+    requires { ⌜ (length (now mass) ≡ count) × (length (now momentum) ≡ count) ⌝ }
+    requires { ⌜ natAbs gravity ≤ 4096 ⌝ }
+    requires { ⌜ ((k : ℕ) → k < count → getD (now mass) k 0 ≤ 2 ^ 43) ⌝ }
+    ensures { λ _. ⌜ now (momentum .exit) ≡ velocities count gravity (now (mass .entry)) (now (momentum .entry)) ⌝ }
+{
+    let mut k = 0;
+    while k < count {
+        let velocity = node::velocity(gravity, mass[k], momentum[k]);
+        momentum[k] = velocity;
+        k += 1;
+    }
+}
+
+// Both axes of every node, where none breaks a limit. `update` and the step call it.
+pub fn update_all(count: usize, gx: i64, gy: i64, mass: &[u64], px: &mut [i64], py: &mut [i64])
+    requires { ⌜ GridLimits count gx gy (now mass) (now px) (now py) ⌝ }
+    ensures { λ _. ⌜ (now (px .exit) ≡ velocities count gx (now (mass .entry)) (now (px .entry))) × (now (py .exit) ≡ velocities count gy (now (mass .entry)) (now (py .entry))) ⌝ }
+{
+    update_axis(count, gx, mass, px);
+    update_axis(count, gy, mass, py);
+}
+
+// Velocity takes the momentum's place in px and py: momentum/(4·mass), rounded, plus gravity, and 0 at a node without mass.
+// A refused call leaves both as they were.
+pub fn update(
+    nx: usize,
+    ny: usize,
+    gx: i64,
+    gy: i64,
+    mass: &[u64],
+    px: &mut [i64],
+    py: &mut [i64],
+) -> Updated
+    ensures { λ r. ⌜ UpdateIs nx ny gx gy (now (mass .entry)) (now (px .entry)) (now (py .entry)) (toldUpdate r) (now (px .exit)) (now (py .exit)) ⌝ }
+{
+    if !particles::size_is_valid(nx, ny) {
+        return Updated::Refused(Refusal::GridSize);
+    }
+    let count = nx * ny;
+    if !checks::lengths_are(count, mass.len(), px.len(), py.len()) {
+        return Updated::Refused(Refusal::Length);
+    }
+    if !checks::gravity_in_range(gx, gy) {
+        return Updated::Refused(Refusal::Gravity);
+    }
+    let checked = check_nodes(count, gx, gy, mass, px, py);
+    match checked {
+        Updated::Refused(refusal) => Updated::Refused(refusal),
+        Updated::Done => {
+            update_all(count, gx, gy, mass, px, py);
+            Updated::Done
+        }
+    }
+}
