@@ -1,15 +1,16 @@
 -- Document 01, "Check a set" and "Totals": the walk over the records of a set, and the two operations' answers.
 -- A set's records lie one after the other from a byte `start` on. Assumes nothing.
 use mathlib.Core.Bool.{Bool, not, _&&_}
-use mathlib.Core.List.{List, [], _∷_, _++_}
+use mathlib.Core.List.{List, [], _∷_, _++_, map}
 use Prim.Native.Nat.{ℕ, zero, suc, _+_, _*_, _/_, _%_}
 use lib.Dec.{leb, ltb, eqb}
 use lib.ListN.{length, take, drop}
 use Rattle.refusal.specs.Refused.{Answer, result, refusedBy, refuseIf, andThen}
+use Rattle.arith.specs.Sums.{upTo}
 use Rattle.spline.specs.Spline.{onAxis}
 use Rattle.particle.specs.declared.Particle.{Particle}
 use Rattle.particle.specs.Layout.{recordLength}
-use Rattle.particle.specs.Record.{readAnswer, recordOf}
+use Rattle.particle.specs.Record.{readAnswer, particleOf, recordOf}
 use Rattle.apic.specs.Step.{alongX, alongY}
 use Rattle.apic.specs.Totals.{totalMass, momentum, angularMomentum, motion}
 use Rattle.particles.specs.declared.Totals.{Totals}
@@ -64,6 +65,13 @@ validLength n = eqb (n % recordLength) 0 && leb n 57344
 
 abbrev pub recordCount : List ℕ → ℕ
 recordCount bytes = length bytes / recordLength
+
+-- the particles that records hold, each 14 bytes one, whether or not the set is accepted
+abbrev pub particleIn : List ℕ → ℕ → Particle
+particleIn bytes k = particleOf (recordAt 0 bytes k)
+
+unfoldable pub particlesIn : List ℕ → List Particle
+particlesIn bytes = map (λ k. particleIn bytes k) (upTo (recordCount bytes))
 
 abbrev pub setAnswer : ℕ → ℕ → List ℕ → Answer (List Particle)
 setAnswer nx ny bytes =

@@ -1,0 +1,88 @@
+-- A gather that is not refused keeps a particle set within its limits.
+--     set-kept      the moved particles are within the limits
+--     target-set    the array that `gather_all` leaves holds such a set
+-- Assumes nothing.
+use mathlib.Core.Path.{_≡_, refl, sym, ap, ap₂, subst, subst₂, _∙_}
+use mathlib.Core.List.{List, [], _∷_, map}
+use Prim.Native.Nat.{ℕ, suc, _+_, _≤_, _<_}
+use lib.ListN.{length, length-map}
+use lib.IntN.{ℤ}
+use Rattle.arith.specs.Sums.{Each}
+use Rattle.refusal.specs.Refused.{Answer, result}
+use Rattle.particle.specs.declared.Particle.{Particle}
+use Rattle.apic.specs.Step.{moved}
+use Rattle.apic.specs.Totals.{totalMass}
+use Rattle.apic.specs.Limits.{ParticleLimits, SetLimits, Rising}
+use Rattle.unpacked.specs.Unpacked.{unpacked, particlesOf, UnpackedSet}
+use Rattle.unpacked.proofs.Laws.{particlesOf-unpacked}
+use Rattle.gather_core.specs.declared.Gathered.{Gathered}
+use Rattle.gather_core.specs.Gather.{gathered, moveChecks, toldGathered, Gathers}
+use Rattle.gather_core.proofs.Checks.{Passed, passed}
+
+-- identifiers and masses are kept, by any move
+module _ (move : Particle → Particle) (same-identifier : (p : Particle) → move p .identifier ≡ p .identifier) (same-mass : (p : Particle) → move p .mass ≡ p .mass) where
+  pub rising-kept : (ps : List Particle) → Rising ps → Rising (map move ps)
+  rising-kept [] h = tt
+  rising-kept (p ∷ []) h = tt
+  rising-kept (p ∷ q ∷ ps) h =
+      (subst₂ _<_ (sym (same-identifier p)) (sym (same-identifier q)) (h .0), rising-kept (q ∷ ps) (h .1))
+
+  pub mass-kept : (ps : List Particle) → totalMass (map move ps) ≡ totalMass ps
+  mass-kept [] = refl
+  mass-kept (p ∷ ps) = ap₂ _+_ (same-mass p) (mass-kept ps)
+
+module _ (nx ny : ℕ) (ux uy : List ℤ) where
+  particle-kept : (p : Particle) → ParticleLimits nx ny p → Passed nx ny p (gathered nx ny ux uy p) → ParticleLimits nx ny (gathered nx ny ux uy p)
+  unfolding moved
+  particle-kept p l h =
+      record {
+        identifier = l .identifier;
+        mass-least = l .mass-least;
+        mass-most = l .mass-most;
+        vx = h .vx;
+        vy = h .vy;
+        bxx = h .bxx;
+        bxy = h .bxy;
+        byx = h .byx;
+        byy = h .byy;
+        x-on = h .x .1;
+        y-on = h .y .1;
+      }
+
+  each-kept : (k : ℕ) (ps : List Particle) → Each (ParticleLimits nx ny) ps → moveChecks {A = Unit {0}} nx ny (gathered nx ny ux uy) k ps (result tt) ≡ result tt → Each (ParticleLimits nx ny) (map (gathered nx ny ux uy) ps)
+  unfolding moveChecks
+  each-kept k [] l e = tt
+  each-kept k (p ∷ ps) l e =
+      let h = passed nx ny p (gathered nx ny ux uy p) k (moveChecks nx ny (gathered nx ny ux uy) (suc k) ps (result tt)) e in
+      (particle-kept p (l .0) (h .0), each-kept (suc k) ps (l .1) (h .1))
+
+  same-identifier : (p : Particle) → gathered nx ny ux uy p .identifier ≡ p .identifier
+  unfolding moved
+  same-identifier p = refl
+
+  same-mass : (p : Particle) → gathered nx ny ux uy p .mass ≡ p .mass
+  unfolding moved
+  same-mass p = refl
+
+  pub set-kept : (k : ℕ) (ps : List Particle) → SetLimits nx ny ps → moveChecks {A = Unit {0}} nx ny (gathered nx ny ux uy) k ps (result tt) ≡ result tt → SetLimits nx ny (map (gathered nx ny ux uy) ps)
+  set-kept k ps l e =
+      record {
+        sizes = l .sizes;
+        count = subst (λ n. n ≤ 4096) (sym (length-map ps (gathered nx ny ux uy))) (l .count);
+        each = each-kept k ps (l .each) e;
+        rising = rising-kept (gathered nx ny ux uy) same-identifier same-mass ps (l .rising);
+        mass = subst (λ n. n ≤ 131072) (sym (mass-kept (gathered nx ny ux uy) same-identifier same-mass ps)) (l .mass);
+      }
+
+pub target-set : {nx ny : ℕ} {source ux uy target : List ℤ} {r : Gathered} → Gathers nx ny source ux uy target r → toldGathered r ≡ result tt → UnpackedSet nx ny source → UnpackedSet nx ny target
+target-set {nx} {ny} {source} {ux} {uy} {target} g done s =
+    record {
+      is = holds ∙ ap unpacked (sym reads);
+      limits = subst (SetLimits nx ny) (sym reads) (set-kept nx ny ux uy 0 (particlesOf source) (s .limits) (sym (g .answer) ∙ done));
+    }
+  where
+    holds : target ≡ unpacked (map (gathered nx ny ux uy) (particlesOf source))
+    holds = g .particles done
+
+    reads : particlesOf target ≡ map (gathered nx ny ux uy) (particlesOf source)
+    reads = ap particlesOf holds ∙ particlesOf-unpacked (map (gathered nx ny ux uy) (particlesOf source))

@@ -1,0 +1,4 @@
+pub mod Checks
+pub mod Record
+pub mod Walk
+pub mod Kept

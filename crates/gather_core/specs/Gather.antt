@@ -1,0 +1,68 @@
+-- Document 01, "Gather", once the nodes' velocities are checked: the particles that it leaves, and what it is refused for.
+-- Assumes nothing.
+use mathlib.Core.Path.{_≡_}
+use mathlib.Core.Bool.{Bool, not, _&&_, _||_}
+use mathlib.Core.List.{List, [], _∷_, map}
+use Prim.Native.Nat.{ℕ, suc, _*_, _≤_}
+use lib.Dec.{ltb}
+use lib.ListN.{length}
+use lib.IntN.{ℤ, natAbs}
+use lib.Signed.{nonNeg}
+use Rattle.arith.specs.Rounding.{nearest, halvesAway}
+use Rattle.arith.specs.Sums.{Each}
+use Rattle.refusal.specs.Refused.{Answer, result, refusedBy, refuseIf}
+use Rattle.spline.specs.Spline.{onAxis, axisWeight}
+use Rattle.spline.specs.Answers.{table}
+use Rattle.particle.specs.declared.Particle.{Particle}
+use Rattle.apic.specs.Step.{moved, node, newCoordinate, alongX, alongY}
+use Rattle.unpacked.specs.Unpacked.{unpacked, particlesOf, UnpackedSet}
+use Rattle.gather_core.specs.declared.Gathered.{Gathered}
+use Rattle.gather_core.specs.declared.Gathered.the-variants.{Done, Refused}
+
+-- the particle after the gather, from node velocities that stand in two lists: the engine's rounding and weights
+abbrev pub gathered : ℕ → ℕ → List ℤ → List ℤ → Particle → Particle
+gathered nx ny ux uy p = moved (nearest halvesAway) axisWeight nx ny (node nx ux) (node nx uy) p
+
+-- ---- "for each record 13 new velocity beyond ±63, 14 new B beyond ±2047, 15 new place off the bath"
+
+abbrev pub beyond : ℕ → ℤ → Bool
+beyond most z = ltb most (natAbs z)
+
+abbrev pub offAxis : ℕ → ℤ → Bool
+offAxis n z = not (nonNeg z && onAxis n (natAbs z))
+
+-- one record: p before its move, q after it
+unfoldable pub moveCheck : {A : Type 0} → ℕ → ℕ → Particle → Particle → ℕ → Answer A → Answer A
+moveCheck nx ny p q k rest =
+    refuseIf (beyond 63 (q .vx) || beyond 63 (q .vy)) 13 k
+    (refuseIf ((beyond 2047 (q .bxx) || beyond 2047 (q .bxy)) || (beyond 2047 (q .byx) || beyond 2047 (q .byy))) 14 k
+    (refuseIf (offAxis nx (newCoordinate alongX p (q .vx)) || offAxis ny (newCoordinate alongY p (q .vy))) 15 k
+    rest))
+
+-- all records, the first of which is record k
+unfoldable pub moveChecks : {A : Type 0} → ℕ → ℕ → (Particle → Particle) → ℕ → List Particle → Answer A → Answer A
+moveChecks nx ny move k [] rest = rest
+moveChecks nx ny move k (p ∷ ps) rest = moveCheck nx ny p (move p) k (moveChecks nx ny move (suc k) ps rest)
+
+-- ---- what `gather_all` asks and promises
+
+abbrev pub toldGathered : Gathered → Answer (Unit {0})
+toldGathered Done = result tt
+toldGathered (Refused e) = refusedBy e
+
+-- velocities of nx by ny nodes, none beyond ±131,072
+pub record NodeVelocities (nx ny : ℕ) (u : List ℤ) : Type 0 where
+  pub count : length u ≡ nx * ny
+  pub each : Each (λ z. natAbs z ≤ 131072) u
+
+pub record Gatherable (nx ny : ℕ) (source : List ℤ) (weights : List (List ℕ)) (ux uy target : List ℤ) : Type 0 where
+  pub particles : UnpackedSet nx ny source
+  pub weights-are : weights ≡ table
+  pub x-velocities : NodeVelocities nx ny ux
+  pub y-velocities : NodeVelocities nx ny uy
+  pub room : length target ≡ length source
+
+-- where it is refused, the target is the caller's scratch and holds anything of its length
+pub record Gathers (nx ny : ℕ) (source ux uy target : List ℤ) (r : Gathered) : Type 0 where
+  pub answer : toldGathered r ≡ moveChecks nx ny (gathered nx ny ux uy) 0 (particlesOf source) (result tt)
+  pub particles : toldGathered r ≡ result tt → target ≡ unpacked (map (gathered nx ny ux uy) (particlesOf source))

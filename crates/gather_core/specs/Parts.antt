@@ -1,0 +1,57 @@
+-- What the helpers of the gather answer: a record's checks on plain numbers, and its numbers stored. Assumes nothing.
+use mathlib.Core.Path.{_≡_}
+use mathlib.Core.Bool.{_||_}
+use mathlib.Core.List.{List}
+use Prim.Native.Nat.{ℕ, _+_, _*_, _<_}
+use lib.ListN.{length, set}
+use lib.IntN.{ℤ, pos}
+use Rattle.arith.specs.Size.{Bound}
+use Rattle.refusal.specs.Refused.{Answer, result, refuseIf}
+use Rattle.particle.specs.declared.Particle.{Particle}
+use Rattle.apic.specs.Step.{newCoordinate, alongX, alongY}
+use Rattle.apic.specs.Limits.{SizeLimits}
+use Rattle.gather_point.specs.declared.AffineVelocity.{AffineVelocity}
+use Rattle.gather_core.specs.Gather.{beyond, offAxis, moveCheck, toldGathered}
+use Rattle.gather_core.specs.declared.Gathered.{Gathered}
+
+-- what record k is refused for, come to (x, y) with a on the x axis and b on the y axis
+unfoldable pub checkOf : ℕ → ℕ → ℕ → ℤ → ℤ → AffineVelocity → AffineVelocity → Answer (Unit {0})
+checkOf k nx ny x y a b =
+    refuseIf (beyond 63 (a .v) || beyond 63 (b .v)) 13 k
+    (refuseIf ((beyond 2047 (a .bx) || beyond 2047 (a .by)) || (beyond 2047 (b .bx) || beyond 2047 (b .by))) 14 k
+    (refuseIf (offAxis nx x || offAxis ny y) 15 k (result tt)))
+
+unfoldable pub fiveStored : List ℤ → ℕ → ℤ → ℤ → ℤ → ℤ → ℤ → List ℤ
+fiveStored l at a b c d e = set (set (set (set (set l at a) (at + 1) b) (at + 2) c) (at + 3) d) (at + 4) e
+
+-- the ten numbers of a particle, in the order of `numbers`
+unfoldable pub particleStored : List ℤ → ℕ → ℤ → ℤ → ℤ → ℤ → AffineVelocity → AffineVelocity → List ℤ
+particleStored l at identifier mass x y a b =
+    fiveStored (fiveStored l at identifier mass x y (a .v)) (at + 5) (b .v) (a .bx) (a .by) (b .bx) (b .by)
+
+-- ---- one record
+
+pub record Settling (k nx ny : ℕ) (x y : ℤ) (a b : AffineVelocity) (target : List ℤ) : Type 0 where
+  pub sizes : SizeLimits nx ny
+  pub room : 10 * k + 9 < length target
+  pub x-size : Bound x 4095
+  pub y-size : Bound y 4095
+  pub vx-size : Bound (a .v) 524288
+  pub vy-size : Bound (b .v) 524288
+
+-- (x, y) is the new place
+pub record Settled (k nx ny : ℕ) (identifier mass x y : ℤ) (a b : AffineVelocity) (target target′ : List ℤ) (r : Gathered) : Type 0 where
+  pub stored : target′ ≡ particleStored target (10 * k) identifier mass x y a b
+  pub answer : toldGathered r ≡ checkOf k nx ny x y a b
+
+-- a particle's velocity on the x axis and on the y axis
+abbrev pub alongXOf : Particle → AffineVelocity
+alongXOf p = record { v = p .vx; bx = p .bxx; by = p .bxy }
+
+abbrev pub alongYOf : Particle → AffineVelocity
+alongYOf p = record { v = p .vy; bx = p .byx; by = p .byy }
+
+-- record k is p before its move and q after it
+pub record MovesOne (nx ny k : ℕ) (p q : Particle) (target target′ : List ℤ) (r : Gathered) : Type 0 where
+  pub stored : target′ ≡ particleStored target (10 * k) (pos (p .identifier)) (pos (p .mass)) (newCoordinate alongX p (q .vx)) (newCoordinate alongY p (q .vy)) (alongXOf q) (alongYOf q)
+  pub answer : toldGathered r ≡ moveCheck nx ny p q k (result tt)

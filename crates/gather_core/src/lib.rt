@@ -1,0 +1,243 @@
+// The grid-to-particle transfer on unpacked particles: every particle gathered, moved, checked and stored.
+ghost use mathlib.Core.Path.{_≡_};
+ghost use mathlib.Core.Bool.{_||_};
+ghost use Prim.Native.Nat.{_+_, _-_, _*_, _<_, _≤_};
+ghost use lib.ListN.{length, getD, set};
+ghost use lib.IntN.{pos, natAbs, _+ℤ_};
+ghost use lib.Signed.{_≤ℤ_};
+ghost use Rattle.arith.specs.Size.{Bound};
+ghost use Rattle.refusal.specs.Refused.{refuseIf, result};
+ghost use Rattle.apic.specs.Limits.{SizeLimits};
+ghost use Rattle.unpacked.specs.Unpacked.{particlesOf, particleAt};
+ghost use Rattle.gather_core.specs.Gather.{beyond, offAxis, toldGathered, gathered, Gatherable, Gathers};
+ghost use Rattle.gather_core.specs.Parts.{checkOf, fiveStored, particleStored, Settling, Settled, MovesOne};
+use gather_point::AffineVelocity;
+use refusal::Refusal;
+
+pub enum Gathered {
+    Done,
+    Refused(Refusal),
+}
+
+fn is_beyond(most: u16, z: i64) -> bool
+    ensures { λ r. ⌜ r ≡ beyond most z ⌝ }
+{
+    let top = most as i64;
+    if z < 0 - top {
+        return true;
+    }
+    top < z
+}
+
+fn either_beyond(most: u16, a: i64, b: i64) -> bool
+    ensures { λ r. ⌜ r ≡ beyond most a || beyond most b ⌝ }
+{
+    if is_beyond(most, a) {
+        return true;
+    }
+    is_beyond(most, b)
+}
+
+fn any_beyond(most: u16, a: i64, b: i64, c: i64, d: i64) -> bool
+    ensures { λ r. ⌜ r ≡ (beyond most a || beyond most b) || (beyond most c || beyond most d) ⌝ }
+{
+    if either_beyond(most, a, b) {
+        return true;
+    }
+    either_beyond(most, c, d)
+}
+
+fn is_off_axis(n: usize, z: i64) -> bool
+    requires { ⌜ (4 ≤ n) × (n ≤ 48) ⌝ }
+    ensures { λ r. ⌜ r ≡ offAxis n z ⌝ }
+{
+    if z < 32 {
+        return true;
+    }
+    last_place(n) < z
+}
+
+fn is_off_grid(nx: usize, ny: usize, x: i64, y: i64) -> bool
+    requires { ⌜ SizeLimits nx ny ⌝ }
+    ensures { λ r. ⌜ r ≡ offAxis nx x || offAxis ny y ⌝ }
+{
+    if is_off_axis(nx, x) {
+        return true;
+    }
+    is_off_axis(ny, y)
+}
+
+// The last coordinate on an axis of n nodes.
+fn last_place(n: usize) -> i64
+    requires { ⌜ (4 ≤ n) × (n ≤ 48) ⌝ }
+    ensures { λ r. ⌜ r ≡ pos (64 * (n - 1) - 33) ⌝ }
+{
+    (64 * (n - 1) - 33) as i64
+}
+
+// What record k is refused for: the first of the three that holds.
+fn answer(k: usize, fast: bool, steep: bool, off: bool) -> Gathered
+    ensures { λ r. ⌜ toldGathered r ≡ refuseIf fast 13 k (refuseIf steep 14 k (refuseIf off 15 k (result tt))) ⌝ }
+{
+    if fast {
+        return Gathered::Refused(Refusal::NewVelocity(k));
+    }
+    if steep {
+        return Gathered::Refused(Refusal::NewAffine(k));
+    }
+    if off {
+        return Gathered::Refused(Refusal::NewPosition(k));
+    }
+    Gathered::Done
+}
+
+// Checks record k, which came to (x, y) with these velocities.
+fn check(
+    k: usize,
+    nx: usize,
+    ny: usize,
+    x: i64,
+    y: i64,
+    a: AffineVelocity,
+    b: AffineVelocity,
+) -> Gathered
+    requires { ⌜ SizeLimits nx ny ⌝ }
+    ensures { λ r. ⌜ toldGathered r ≡ checkOf k nx ny x y a b ⌝ }
+{
+    let fast = either_beyond(63, a.v, b.v);
+    let steep = any_beyond(2047, a.bx, a.by, b.bx, b.by);
+    let off = is_off_grid(nx, ny, x, y);
+    answer(k, fast, steep, off)
+}
+
+fn store(to: &mut [i64], at: usize, z: i64)
+    requires { ⌜ at < length (now to) ⌝ }
+    ensures { λ r. ⌜ now (to .exit) ≡ set (now (to .entry)) at z ⌝ }
+{
+    to[at] = z;
+}
+
+// Five numbers from place `at` on.
+fn store_five(to: &mut [i64], at: usize, a: i64, b: i64, c: i64, d: i64, e: i64)
+    requires { ⌜ at + 4 < length (now to) ⌝ }
+    ensures { λ r. ⌜ now (to .exit) ≡ fiveStored (now (to .entry)) at a b c d e ⌝ }
+{
+    store(to, at, a);
+    store(to, at + 1, b);
+    store(to, at + 2, c);
+    store(to, at + 3, d);
+    store(to, at + 4, e);
+}
+
+// The ten numbers of a particle, from place `at` on.
+fn store_particle(
+    to: &mut [i64],
+    at: usize,
+    identifier: i64,
+    mass: i64,
+    x: i64,
+    y: i64,
+    a: AffineVelocity,
+    b: AffineVelocity,
+)
+    requires { ⌜ at + 9 < length (now to) ⌝ }
+    ensures { λ r. ⌜ now (to .exit) ≡ particleStored (now (to .entry)) at identifier mass x y a b ⌝ }
+{
+    store_five(to, at, identifier, mass, x, y, a.v);
+    store_five(to, at + 5, b.v, a.bx, a.by, b.bx, b.by);
+}
+
+// A coordinate that stands in an array of particles.
+fn coordinate(from: &[i64], at: usize) -> usize
+    requires { ⌜ (at < length (now from)) × (pos 0 ≤ℤ getD (now from) at (pos 0)) ⌝ }
+    ensures { λ r. ⌜ r ≡ natAbs (getD (now (from .entry)) at (pos 0)) ⌝ }
+{
+    from[at] as usize
+}
+
+// A coordinate that gains a velocity.
+fn gain(x: i64, v: i64) -> i64
+    requires { ⌜ Bound x 4095 × Bound v 524288 ⌝ }
+    ensures { λ r. ⌜ r ≡ x +ℤ v ⌝ }
+{
+    x + v
+}
+
+// Moves record k from (x, y), stores it in `to` and checks it.
+fn settle(
+    k: usize,
+    nx: usize,
+    ny: usize,
+    identifier: i64,
+    mass: i64,
+    x: i64,
+    y: i64,
+    a: AffineVelocity,
+    b: AffineVelocity,
+    to: &mut [i64],
+) -> Gathered
+    requires { ⌜ Settling k nx ny x y a b (now to) ⌝ }
+    ensures { λ r. ⌜ Settled k nx ny identifier mass (x +ℤ a .v) (y +ℤ b .v) a b (now (to .entry)) (now (to .exit)) r ⌝ }
+{
+    let new_x = gain(x, a.v);
+    let new_y = gain(y, b.v);
+    store_particle(to, 10 * k, identifier, mass, new_x, new_y, a, b);
+    check(k, nx, ny, new_x, new_y, a, b)
+}
+
+// Moves particle k of `from` into `to`, which takes its numbers even where it is refused.
+fn move_one(
+    from: &[i64],
+    k: usize,
+    nx: usize,
+    ny: usize,
+    table: &[[u16; 3]; 64],
+    ux: &[i64],
+    uy: &[i64],
+    to: &mut [i64],
+) -> Gathered
+    requires { ⌜ Gatherable nx ny (now from) (now table) (now ux) (now uy) (now to) × (k < length (particlesOf (now from))) ⌝ }
+    ensures { λ r. ⌜ MovesOne nx ny k (particleAt (now (from .entry)) k) (gathered nx ny (now (ux .entry)) (now (uy .entry)) (particleAt (now (from .entry)) k)) (now (to .entry)) (now (to .exit)) r ⌝ }
+{
+    let at = 10 * k;
+    let x = coordinate(from, at + 2);
+    let y = coordinate(from, at + 3);
+    let m = gather_point::gather_at(x, y, nx, table, ux, uy);
+    settle(
+        k,
+        nx,
+        ny,
+        from[at],
+        from[at + 1],
+        from[at + 2],
+        from[at + 3],
+        m.x,
+        m.y,
+        to,
+    )
+}
+
+// Moves every particle of `from` into `to`. `gather` of crate transfer and the step call it.
+pub fn gather_all(
+    from: &[i64],
+    nx: usize,
+    ny: usize,
+    table: &[[u16; 3]; 64],
+    ux: &[i64],
+    uy: &[i64],
+    to: &mut [i64],
+) -> Gathered
+    requires { ⌜ Gatherable nx ny (now from) (now table) (now ux) (now uy) (now to) ⌝ }
+    ensures { λ r. ⌜ Gathers nx ny (now (from .entry)) (now (ux .entry)) (now (uy .entry)) (now (to .exit)) r ⌝ }
+{
+    let count = from.len() / 10;
+    let mut k = 0;
+    while k < count {
+        match move_one(from, k, nx, ny, table, ux, uy, to) {
+            Gathered::Done => {}
+            Gathered::Refused(refusal) => return Gathered::Refused(refusal),
+        }
+        k += 1;
+    }
+    Gathered::Done
+}

@@ -1,0 +1,4 @@
+pub mod Spots
+pub mod Rows
+pub mod Zeros
+pub mod Grids

@@ -1,0 +1,44 @@
+-- `grid_cells::clear` meets its contract. The loop's invariant: the cells before k are cleared. Assumes nothing.
+use mathlib.Core.Path.{refl}
+use Prim.Native.Nat.{_-_, zero-le}
+use native.Mathlib.Omega.{arith}
+use lib.ListN.{length, length-set}
+use lib.IntN.{pos}
+use borrow.Author.Needs.{needs}
+use Rattle.grid_cells.proofs.Zeros.{Cleared, clear-one, clear-end}
+use Rattle.grid_cells.proofs.clear.Statement.{statement}
+use Rattle.grid_cells.proofs.clear.Tie as tie
+
+abbrev Inv-loop : tie.InvT-loop
+Inv-loop cells₀ k₀ cells k = Cleared (pos 0) cells₀ cells k
+
+abbrev μ-loop : tie.MeasureT-loop
+μ-loop cells₀ k₀ cells k = length cells - k
+
+loop-holds : tie.Need-loop-holds Inv-loop μ-loop
+loop-holds c = record { long = refl; within = zero-le; front = refl }
+
+mul-cells : tie.Need-mul-cells Inv-loop μ-loop
+mul-cells c = search needs
+
+slice-set-of-cells : tie.Need-slice-set-of-cells Inv-loop μ-loop
+slice-set-of-cells c = search needs
+
+add-k : tie.Need-add-k Inv-loop μ-loop
+add-k c = search needs
+
+loop-less : tie.Need-loop-less Inv-loop μ-loop
+loop-less c = simp length-set (omega arith)
+
+loop-again : tie.Need-loop-again Inv-loop μ-loop
+loop-again c = clear-one (c .before .loop .inv) (c .loop-test .taken)
+
+same-length : tie.Need-same-length Inv-loop μ-loop
+same-length c = search needs
+
+returns : tie.Need-returns Inv-loop μ-loop
+returns c = clear-end (c .before .loop .inv) (c .loop-test .left)
+
+pub clear-spec : {M : Type 1} → statement M
+clear-spec =
+    tie.close (tie.spec Inv-loop μ-loop loop-holds mul-cells slice-set-of-cells add-k loop-less loop-again same-length returns)

@@ -1,0 +1,26 @@
+-- `packing::signed_at` meets its contract: the number is one of 16 bits. Assumes nothing.
+use borrow.Author.Needs.{needs}
+use lib.IntN.{ℤ, pos}
+use lib.ListN.{getD}
+use denote.Ref.{now}
+use Rattle.packing.proofs.Widths.{mag-16, narrowed, narrowed-fits}
+use Rattle.packing.proofs.signed_at.Statement.{statement}
+use Rattle.packing.proofs.signed_at.Tie as tie
+
+abbrev number : tie.After-result → ℤ
+number c = getD (now (c .before .args .array)) (c .before .args .at) (pos 0)
+
+mul-result : tie.Need-mul-result
+mul-result c = search needs
+
+shared-slice-copy-out-result : tie.Need-shared-slice-copy-out-result
+shared-slice-copy-out-result c = search needs
+
+cast-result : tie.Need-cast-result
+cast-result c = narrowed-fits (number c) (mag-16 (number c) (c .before .pre .small))
+
+returns : tie.Need-returns
+returns c = narrowed (number c) (mag-16 (number c) (c .before .pre .small))
+
+pub signed-at-spec : {M : Type 1} → statement M
+signed-at-spec = tie.close (tie.spec mul-result shared-slice-copy-out-result cast-result returns)

@@ -1,0 +1,4 @@
+pub mod Machine
+pub mod Momenta
+pub mod Line
+pub mod Block

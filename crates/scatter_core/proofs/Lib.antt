@@ -1,0 +1,7 @@
+pub mod Numbers
+pub mod Weights
+pub mod Shares
+pub mod Bounds
+pub mod Particles
+pub mod Reading
+pub mod Sets

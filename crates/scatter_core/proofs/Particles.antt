@@ -1,0 +1,168 @@
+-- One particle on the grid: its cell, what a block of nine nodes asks of it, and what that block adds.
+--     axis-small, cell-below     coordinates and cell are small
+--     speed-is, spread-is        the numbers that are passed on, and their bounds
+--     block-ready                what the function that adds a block asks
+--     particle-added             the particle's shares are added
+-- Assumes nothing.
+use mathlib.Core.Path.{_≡_, refl, sym, ap, subst, _∙_}
+use mathlib.Core.List.{List, [], _∷_, map}
+use Prim.Native.Nat.{ℕ, _+_, _-_, _*_, _%_, _<_, _≤_}
+use native.Mathlib.Nat.{mul-le-mul, mul-le-mul-right, le-trans, lt-of-lt-of-le, one-mul}
+use native.Mathlib.Omega.{arith}
+use lib.Dec.{T, leb, leb→le}
+use lib.ListN.{length, getD}
+use lib.IntN.{ℤ, pos, _+ℤ_, _-ℤ_, _*ℤ_, +ℤ-idr}
+use mir.Syntax.{w64}
+use mir.Val.{toZ, ofZ}
+use mir.Facts.{and-yes}
+use Rattle.arith.specs.Size.{Bound, sizes, bounded, bound-equal}
+use Rattle.spline.specs.Spline.{onAxis, nearestNode, displacement, axisWeight}
+use Rattle.spline.specs.Answers.{rowOf}
+use Rattle.spline.specs.declared.AxisWeights.{AxisWeights}
+use Rattle.spline.proofs.Axis.{Touched, touched}
+use Rattle.particle.specs.declared.Particle.{Particle}
+use Rattle.apic.specs.Step.{Axis, alongX, alongY, velocity, affine, nodeMass, nodeMomentum}
+use Rattle.apic.specs.Limits.{SizeLimits, ParticleLimits}
+use Rattle.grid_cells.specs.Plus.{plus}
+use Rattle.grid_cells.proofs.Grids.{row-high, line-above-index, index-below, plus-cong, mass-plus}
+use Rattle.scatter_block.specs.Lines.{Held, BlockLimits, BlockAdded, mostBefore, mostMiddle, mostChange}
+use Rattle.scatter_block.proofs.Machine.{passed}
+use Rattle.scatter_core.specs.Scatter.{Added, ParticleReady, Middle, massAt, momentumAt}
+use Rattle.scatter_core.proofs.Weights.{WeightsOf, weights-of}
+use Rattle.scatter_core.proofs.Bounds.{mass-nonneg, AlongLimits, along-limits}
+use Rattle.scatter_core.proofs.Shares.{momentum-shares, mass-shares}
+
+-- ---- the cell
+
+pub axis-small : (n x : ℕ) → n ≤ 48 → T (onAxis n x) → x ≤ 4095
+unfolding onAxis
+axis-small n x s t =
+    let h = leb→le x (64 * (n - 1) - 33) (and-yes (leb 32 x) (leb x (64 * (n - 1) - 33)) t .1) in
+    omega arith
+
+module _ {nx ny x y : ℕ} (sizes-are : SizeLimits nx ny) (x-on : Touched nx x) (y-on : Touched ny y) where
+  pub cell-below : nearestNode y * nx + nearestNode x < 2304
+  cell-below =
+      lt-of-lt-of-le
+      (index-below nx ny (nearestNode x) (nearestNode y) (omega (arith, x-on .high)) (omega (arith, y-on .high)))
+      (mul-le-mul (sizes-are .x-most) (sizes-are .y-most))
+
+  cell-low : nx + 1 ≤ nearestNode y * nx + nearestNode x
+  cell-low = past nx (nearestNode y * nx) (nearestNode x) (rw one-mul at (mul-le-mul-right nx (y-on .low))) (x-on .low)
+    where
+      past : (n m a : ℕ) → n ≤ m → 1 ≤ a → n + 1 ≤ m + a
+      past n m a h g = omega arith
+
+  cell-high : nearestNode y * nx + nearestNode x + nx + 1 < nx * ny
+  cell-high =
+      rw (line-above-index nx (nearestNode x) (nearestNode y))
+      (row-high nx ny (nearestNode x) (x-on .low) (x-on .high) (nearestNode y + 1) (y-on .high))
+
+-- ---- numbers that are passed on
+
+module _ {v bx by dx dy : ℤ} {x y : ℕ} (v-most : Bound v 63) (bx-most : Bound bx 2047) (by-most : Bound by 2047) (x-middle : Middle x dx) (y-middle : Middle y dy) {s : ℤ} (is : s ≡ pos 1024 *ℤ toZ w64 (ofZ w64 v) +ℤ toZ w64 (ofZ w64 bx) *ℤ toZ w64 (ofZ w64 dx) +ℤ toZ w64 (ofZ w64 by) *ℤ toZ w64 (ofZ w64 dy)) where
+  rate-most : (v bx by dx dy : ℤ) → Bound v 63 → Bound bx 2047 → Bound by 2047 → Bound dx 32 → Bound dy 32 → Bound (pos 1024 *ℤ v +ℤ bx *ℤ dx +ℤ by *ℤ dy) mostMiddle
+  rate-most v bx by dx dy p q r s t = bounded (search sizes depth 20) tt
+
+  rate-is : s ≡ pos 1024 *ℤ v +ℤ bx *ℤ dx +ℤ by *ℤ dy
+  rate-is =
+      is
+      ∙ (λ t.
+      pos 1024 *ℤ passed v-most tt t +ℤ passed bx-most tt t *ℤ passed (x-middle .most) tt t
+      +ℤ passed by-most tt t *ℤ passed (y-middle .most) tt t)
+
+  s-most : Bound s mostMiddle
+  s-most = bound-equal (sym rate-is) (rate-most v bx by dx dy v-most bx-most by-most (x-middle .most) (y-middle .most))
+
+  pub speed-most : Bound (toZ w64 (ofZ w64 s)) mostMiddle
+  speed-most = bound-equal (sym (passed s-most tt)) s-most
+
+  pub speed-is : toZ w64 (ofZ w64 s) ≡ pos 1024 *ℤ v +ℤ bx *ℤ displacement x (nearestNode x) +ℤ by *ℤ displacement y (nearestNode y)
+  speed-is = passed s-most tt ∙ rate-is ∙ (λ t. pos 1024 *ℤ v +ℤ bx *ℤ x-middle .is t +ℤ by *ℤ y-middle .is t)
+
+module _ {b : ℤ} (b-most : Bound b 2047) {r : ℤ} (is : r ≡ pos 64 *ℤ toZ w64 (ofZ w64 b)) where
+  clean : r ≡ pos 64 *ℤ b
+  clean = is ∙ (λ t. pos 64 *ℤ passed b-most tt t)
+
+  change-most : Bound r mostChange
+  change-most = bound-equal (sym clean) (bounded (search sizes depth 20) tt)
+
+  pub spread-most : Bound (toZ w64 (ofZ w64 r)) mostChange
+  spread-most = bound-equal (sym (passed change-most tt)) change-most
+
+  pub spread-is : toZ w64 (ofZ w64 r) ≡ pos 64 *ℤ b
+  spread-is = passed change-most tt ∙ clean
+
+-- ---- the block
+
+-- the sums over one particle
+mass-one : (p : Particle) (i j : ℕ) → pos (p .mass) *ℤ (axisWeight (p .x) i *ℤ axisWeight (p .y) j) ≡ massAt (p ∷ []) i j
+unfolding nodeMass
+mass-one p i j = sym (+ℤ-idr (pos (p .mass) *ℤ (axisWeight (p .x) i *ℤ axisWeight (p .y) j)))
+
+momentum-one : (a : Axis) (p : Particle) (i j : ℕ) → pos (p .mass) *ℤ (axisWeight (p .x) i *ℤ axisWeight (p .y) j) *ℤ (pos 1024 *ℤ velocity a p +ℤ affine a alongX p *ℤ displacement (p .x) i +ℤ affine a alongY p *ℤ displacement (p .y) j) ≡ momentumAt a (p ∷ []) i j
+unfolding nodeMomentum
+momentum-one a p i j =
+    sym
+    (+ℤ-idr
+    (pos (p .mass) *ℤ (axisWeight (p .x) i *ℤ axisWeight (p .y) j)
+    *ℤ (pos 1024 *ℤ velocity a p +ℤ affine a alongX p *ℤ displacement (p .x) i +ℤ affine a alongY p *ℤ displacement (p .y) j)))
+
+module _ {nx ny : ℕ} {p : Particle} {weights : List (List ℕ)} {mass : List ℕ} {px py : List ℤ} (ready : ParticleReady nx ny p weights mass px py) where
+  pub x-touched : Touched nx (p .x)
+  x-touched = touched nx (p .x) (ready .limits .x-on)
+
+  pub y-touched : Touched ny (p .y)
+  y-touched = touched ny (p .y) (ready .limits .y-on)
+
+  along : (a : Axis) → AlongLimits a p
+  along a = along-limits a p (ready .limits)
+
+  -- what the functions that it calls give
+  module _ {wx wy : AxisWeights} (x-row : wx ≡ rowOf (getD weights ((p .x + 32) % 64) [])) (y-row : wy ≡ rowOf (getD weights ((p .y + 32) % 64) [])) {dx dy : ℤ} (x-middle : Middle (p .x) dx) (y-middle : Middle (p .y) dy) {sx sy cxx cxy cyx cyy : ℤ} (of-sx : sx ≡ pos 1024 *ℤ toZ w64 (ofZ w64 (p .vx)) +ℤ toZ w64 (ofZ w64 (p .bxx)) *ℤ toZ w64 (ofZ w64 dx) +ℤ toZ w64 (ofZ w64 (p .bxy)) *ℤ toZ w64 (ofZ w64 dy)) (of-sy : sy ≡ pos 1024 *ℤ toZ w64 (ofZ w64 (p .vy)) +ℤ toZ w64 (ofZ w64 (p .byx)) *ℤ toZ w64 (ofZ w64 dx) +ℤ toZ w64 (ofZ w64 (p .byy)) *ℤ toZ w64 (ofZ w64 dy)) (of-xx : cxx ≡ pos 64 *ℤ toZ w64 (ofZ w64 (p .bxx))) (of-xy : cxy ≡ pos 64 *ℤ toZ w64 (ofZ w64 (p .bxy))) (of-yx : cyx ≡ pos 64 *ℤ toZ w64 (ofZ w64 (p .byx))) (of-yy : cyy ≡ pos 64 *ℤ toZ w64 (ofZ w64 (p .byy))) where
+    ox : WeightsOf (p .x) wx
+    ox = weights-of (p .x) weights wx (ready .is-table) x-row
+
+    oy : WeightsOf (p .y) wy
+    oy = weights-of (p .y) weights wy (ready .is-table) y-row
+
+    pub block-ready : BlockLimits (length mass) nx mass px py (nearestNode (p .y) * nx + nearestNode (p .x)) (p .mass) wx wy (toZ w64 (ofZ w64 sx)) (toZ w64 (ofZ w64 cxx)) (toZ w64 (ofZ w64 cxy)) (toZ w64 (ofZ w64 sy)) (toZ w64 (ofZ w64 cyx)) (toZ w64 (ofZ w64 cyy))
+    block-ready =
+        let long = ready .held .mass-long in
+        let x = along alongX in
+        let y = along alongY in
+        record {
+          low = cell-low (ready .sizes) x-touched y-touched;
+          high = rw long (cell-high (ready .sizes) x-touched y-touched);
+          held = subst (λ n. Held mostBefore n mass px py) (sym long) (ready .held);
+          m-most = ready .limits .mass-most;
+          x-weights = ox .most;
+          y-weights = oy .most;
+          sx-most = speed-most (x .v-most) (x .bx-most) (x .by-most) x-middle y-middle of-sx;
+          bxx-most = spread-most (x .bx-most) of-xx;
+          bxy-most = spread-most (x .by-most) of-xy;
+          sy-most = speed-most (y .v-most) (y .bx-most) (y .by-most) x-middle y-middle of-sy;
+          byx-most = spread-most (y .bx-most) of-yx;
+          byy-most = spread-most (y .by-most) of-yy;
+        }
+
+    pub particle-added : {mass′ : List ℕ} {px′ py′ : List ℤ} → BlockAdded nx mass px py mass′ px′ py′ (nearestNode (p .y) * nx + nearestNode (p .x)) (p .mass) wx wy (toZ w64 (ofZ w64 sx)) (toZ w64 (ofZ w64 cxx)) (toZ w64 (ofZ w64 cxy)) (toZ w64 (ofZ w64 sy)) (toZ w64 (ofZ w64 cyx)) (toZ w64 (ofZ w64 cyy)) → Added nx ny (p ∷ []) mass px py mass′ px′ py′
+    particle-added {mass′} {px′} {py′} added =
+        let x = along alongX in
+        let y = along alongY in
+        record {
+          of-mass =
+              mass-plus nx ny mass mass′ (massAt (p ∷ [])) (mass-nonneg nx ny (p ∷ []) (ready .limits, tt))
+              (mass-shares nx ny (p .mass) (p .x) (p .y) x-touched y-touched ox oy mass mass′ (ready .held .mass-long) (added .of-mass)
+              ∙ plus-cong nx ny (map pos mass) _ (massAt (p ∷ [])) (λ i j. mass-one p i j));
+          of-px =
+              momentum-shares nx ny (p .mass) (p .x) (p .y) x-touched y-touched ox oy (p .vx) (p .bxx) (p .bxy) px px′
+              (speed-is (x .v-most) (x .bx-most) (x .by-most) x-middle y-middle of-sx) (spread-is (x .bx-most) of-xx) (spread-is (x .by-most) of-xy)
+              (ready .held .px-long) (added .of-px)
+              ∙ plus-cong nx ny px _ (momentumAt alongX (p ∷ [])) (λ i j. momentum-one alongX p i j);
+          of-py =
+              momentum-shares nx ny (p .mass) (p .x) (p .y) x-touched y-touched ox oy (p .vy) (p .byx) (p .byy) py py′
+              (speed-is (y .v-most) (y .bx-most) (y .by-most) x-middle y-middle of-sy) (spread-is (y .bx-most) of-yx) (spread-is (y .by-most) of-yy)
+              (ready .held .py-long) (added .of-py)
+              ∙ plus-cong nx ny py _ (momentumAt alongY (p ∷ [])) (λ i j. momentum-one alongY p i j);
+        }

@@ -1,0 +1,99 @@
+-- Reading the k-th particle's numbers from an array that holds a particle set. Assumes nothing.
+use mathlib.Core.Path.{_≡_, refl, sym, ap, subst, _∙_}
+use mathlib.Core.List.{List, [], _∷_}
+use Prim.Native.Nat.{ℕ, _+_, _*_, _^_, _<_, _≤_}
+use native.Mathlib.Omega.{arith}
+use lib.Dec.{T, ltb, lit<}
+use lib.ListN.{length, getD}
+use lib.IntN.{ℤ, pos, natAbs}
+use lib.Signed.{nonNeg}
+use mir.Syntax.{w64}
+use mir.Val.{Fits, toZ, ofZ, hbits}
+use mir.Facts.{fits-below}
+use Rattle.arith.specs.Size.{Bound, bound-pos}
+use Rattle.particle.specs.declared.Particle.{Particle}
+use Rattle.apic.specs.Step.{nodeMass, nodeMomentum}
+use Rattle.apic.specs.Limits.{SetLimits, ParticleLimits}
+use Rattle.unpacked.specs.Unpacked.{UnpackedSet, particleAt, particlesOf}
+use Rattle.unpacked.proofs.Laws.{NumbersAt, count, set-numbers-at, limits-at}
+use Rattle.scatter_block.proofs.Machine.{passed}
+use Rattle.scatter_core.specs.Scatter.{Added, NthReady, ParticleReady, particleOf}
+use Rattle.scatter_core.proofs.Particles.{axis-small}
+
+-- a number that is read, and a natural number's cast
+read-natural : {z : ℤ} {m n : ℕ} → z ≡ pos m → m ≤ n → T (ltb n (2 ^ hbits w64)) → toZ w64 (ofZ w64 z) ≡ pos m
+read-natural e h t = ap (λ z. toZ w64 (ofZ w64 z)) e ∙ passed (bound-pos h) t
+
+read-signed : (z : ℤ) {n : ℕ} → natAbs z ≤ n → T (ltb n (2 ^ hbits w64)) → toZ w64 (ofZ w64 z) ≡ z
+read-signed z {n} h t = passed {n = n} (record { size = h }) t
+
+cast-natural : {z : ℤ} {m : ℕ} → z ≡ pos m → m ≤ 4095 → T (nonNeg (toZ w64 (ofZ w64 z))) × Fits w64 (natAbs (toZ w64 (ofZ w64 z)))
+cast-natural e h = rw (read-natural e h tt) (tt, fits-below tt h)
+
+module _ {nx ny : ℕ} {l : List ℤ} {k : ℕ} {weights : List (List ℕ)} {mass : List ℕ} {px py : List ℤ} (ready : NthReady nx ny l k weights mass px py) where
+  pub index-below : (f : ℕ) → f < 10 → 10 * k + f < length l
+  index-below f h = omega (arith, count (ready .set), ready .below)
+
+  at : NumbersAt l k (particleAt l k)
+  at = set-numbers-at (ready .set) k (ready .below)
+
+  limits : ParticleLimits nx ny (particleAt l k)
+  limits = limits-at (ready .set) k (ready .below)
+
+  mass-small : particleAt l k .mass ≤ 4095
+  mass-small = omega (arith, limits .mass-most)
+
+  x-small : particleAt l k .x ≤ 4095
+  x-small = axis-small nx (particleAt l k .x) (ready .set .limits .sizes .x-most) (limits .x-on)
+
+  y-small : particleAt l k .y ≤ 4095
+  y-small = axis-small ny (particleAt l k .y) (ready .set .limits .sizes .y-most) (limits .y-on)
+
+  pub m-cast : T (nonNeg (toZ w64 (ofZ w64 (getD l (10 * k + 1) (pos 0))))) × Fits w64 (natAbs (toZ w64 (ofZ w64 (getD l (10 * k + 1) (pos 0)))))
+  m-cast = cast-natural (at .mass) mass-small
+
+  pub x-cast : T (nonNeg (toZ w64 (ofZ w64 (getD l (10 * k + 2) (pos 0))))) × Fits w64 (natAbs (toZ w64 (ofZ w64 (getD l (10 * k + 2) (pos 0)))))
+  x-cast = cast-natural (at .x) x-small
+
+  pub y-cast : T (nonNeg (toZ w64 (ofZ w64 (getD l (10 * k + 3) (pos 0))))) × Fits w64 (natAbs (toZ w64 (ofZ w64 (getD l (10 * k + 3) (pos 0)))))
+  y-cast = cast-natural (at .y) y-small
+
+  -- the particle but for its identifier
+  nameless : Particle
+  nameless = let p = particleAt l k in particleOf (p .mass) (p .x) (p .y) (p .vx) (p .vy) (p .bxx) (p .bxy) (p .byx) (p .byy)
+
+  read : particleOf (natAbs (toZ w64 (ofZ w64 (getD l (10 * k + 1) (pos 0))))) (natAbs (toZ w64 (ofZ w64 (getD l (10 * k + 2) (pos 0))))) (natAbs (toZ w64 (ofZ w64 (getD l (10 * k + 3) (pos 0))))) (toZ w64 (ofZ w64 (getD l (10 * k + 4) (pos 0)))) (toZ w64 (ofZ w64 (getD l (10 * k + 5) (pos 0)))) (toZ w64 (ofZ w64 (getD l (10 * k + 6) (pos 0)))) (toZ w64 (ofZ w64 (getD l (10 * k + 7) (pos 0)))) (toZ w64 (ofZ w64 (getD l (10 * k + 8) (pos 0)))) (toZ w64 (ofZ w64 (getD l (10 * k + 9) (pos 0)))) ≡ nameless
+  unfolding nameless
+  read =
+      λ t. particleOf (natAbs (read-natural (at .mass) mass-small tt t)) (natAbs (read-natural (at .x) x-small tt t)) (natAbs (read-natural (at .y) y-small tt t))
+      (read-signed (particleAt l k .vx) (limits .vx) tt t) (read-signed (particleAt l k .vy) (limits .vy) tt t) (read-signed (particleAt l k .bxx) (limits .bxx) tt t) (read-signed (particleAt l k .bxy) (limits .bxy) tt t) (read-signed (particleAt l k .byx) (limits .byx) tt t) (read-signed (particleAt l k .byy) (limits .byy) tt t)
+
+  pub nth-asked : ParticleReady nx ny (particleOf (natAbs (toZ w64 (ofZ w64 (getD l (10 * k + 1) (pos 0))))) (natAbs (toZ w64 (ofZ w64 (getD l (10 * k + 2) (pos 0))))) (natAbs (toZ w64 (ofZ w64 (getD l (10 * k + 3) (pos 0))))) (toZ w64 (ofZ w64 (getD l (10 * k + 4) (pos 0)))) (toZ w64 (ofZ w64 (getD l (10 * k + 5) (pos 0)))) (toZ w64 (ofZ w64 (getD l (10 * k + 6) (pos 0)))) (toZ w64 (ofZ w64 (getD l (10 * k + 7) (pos 0)))) (toZ w64 (ofZ w64 (getD l (10 * k + 8) (pos 0)))) (toZ w64 (ofZ w64 (getD l (10 * k + 9) (pos 0))))) weights mass px py
+  unfolding nameless
+  nth-asked =
+      subst (λ p. ParticleReady nx ny p weights mass px py) (sym read)
+      (record {
+        sizes = ready .set .limits .sizes;
+        limits =
+            record {
+              identifier = lit< tt;
+              mass-least = limits .mass-least;
+              mass-most = limits .mass-most;
+              vx = limits .vx;
+              vy = limits .vy;
+              bxx = limits .bxx;
+              bxy = limits .bxy;
+              byx = limits .byx;
+              byy = limits .byy;
+              x-on = limits .x-on;
+              y-on = limits .y-on;
+            };
+        is-table = ready .is-table;
+        held = ready .held;
+      })
+
+  pub nth-added : {mass′ : List ℕ} {px′ py′ : List ℤ} → Added nx ny (particleOf (natAbs (toZ w64 (ofZ w64 (getD l (10 * k + 1) (pos 0))))) (natAbs (toZ w64 (ofZ w64 (getD l (10 * k + 2) (pos 0))))) (natAbs (toZ w64 (ofZ w64 (getD l (10 * k + 3) (pos 0))))) (toZ w64 (ofZ w64 (getD l (10 * k + 4) (pos 0)))) (toZ w64 (ofZ w64 (getD l (10 * k + 5) (pos 0)))) (toZ w64 (ofZ w64 (getD l (10 * k + 6) (pos 0)))) (toZ w64 (ofZ w64 (getD l (10 * k + 7) (pos 0)))) (toZ w64 (ofZ w64 (getD l (10 * k + 8) (pos 0)))) (toZ w64 (ofZ w64 (getD l (10 * k + 9) (pos 0)))) ∷ []) mass px py mass′ px′ py′ → Added nx ny (particleAt l k ∷ []) mass px py mass′ px′ py′
+  unfolding nameless nodeMass nodeMomentum
+  nth-added {mass′} {px′} {py′} a =
+      let b : Added nx ny (nameless ∷ []) mass px py mass′ px′ py′ = subst (λ p. Added nx ny (p ∷ []) mass px py mass′ px′ py′) read a in
+      record { of-mass = b .of-mass; of-px = b .of-px; of-py = b .of-py }

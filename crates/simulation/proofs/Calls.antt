@@ -1,0 +1,163 @@
+-- What calls make of the records: completed steps, and nothing else.
+--     Ready            the records hold the particles ps, which break no limit of these settings
+--     Works            from the records before, the steps with these settings are completed and lead to the records after
+--     works-none, works-append
+--                      no step; two parts in a row
+--     ready-step, ready-run
+--                      what the checks at entry let in is ready
+--     step-works, run-works, call-works, calls-work
+--                      one step; the steps of a run; a call; a list of calls
+--     calls-number     as many steps as the calls say
+-- Assumes nothing.
+use mathlib.Core.Path.{_≡_, refl, sym, ap, _∙_, subst}
+use mathlib.Core.Bool.{true, not}
+use mathlib.Core.List.{List, [], _∷_, _++_}
+use Prim.Native.Nat.{ℕ, zero, suc, _+_, _*_}
+use native.Mathlib.Omega.{arith}
+use lib.Dec.{ltb}
+use lib.ListN.{length, replicate, length-append, length-replicate}
+use borrow.Author.Tests.{not-false}
+use Rattle.refusal.specs.Refused.{Answer, result, refused, refuseIf}
+use Rattle.refusal.proofs.Answers.{passed}
+use Rattle.particle.specs.declared.Particle.{Particle}
+use Rattle.apic.specs.Limits.{SetLimits}
+use Rattle.particles.specs.Set.{validSize, validLength, recordsOf, particlesIn}
+use Rattle.particles.proofs.Checks.{good-entry}
+use Rattle.particles.proofs.Accepted.{accepted-limits}
+use Rattle.update.specs.Checks.{lengthsAre, bothWithin}
+use Rattle.simulation.specs.declared.Settings.{Settings}
+use Rattle.simulation.specs.Step.{Grids, After, either, checkEntry, setIn, stepped, stepOf, nodesOf, stepEntry, stepFrom, stepAfter}
+use Rattle.simulation.specs.Run.{Completion, afterOne, runFrom, runEntry, runAfter}
+use Rattle.simulation.specs.Demand3.{Accepted, Call, step, run, settingsOf, leaves, completes, leavesAll, completesAll, settingsAll, arrives}
+use Rattle.simulation.proofs.Records.{set-particles, records-particles, records-accepted}
+use Rattle.simulation.proofs.Steps.{step-result, completed, limits-after}
+use Rattle.simulation.proofs.Chains.{Chain, chain-append, arrives-append}
+
+pub record Ready (s : Settings) (records : List ℕ) (ps : List Particle) : Type 0 where
+  pub holds : particlesIn records ≡ ps
+  pub limits : SetLimits (s .nx) (s .ny) ps
+
+pub record Works (ss : List Settings) (before after : List ℕ) : Type 0 where
+  pub chain : Chain ss (particlesIn before)
+  pub last : particlesIn after ≡ arrives ss (particlesIn before)
+  pub accepted : Accepted after
+
+pub works-none : {records : List ℕ} → Accepted records → Works [] records records
+unfolding arrives
+works-none h = record { chain = tt; last = refl; accepted = h }
+
+pub works-append : {ss ts : List Settings} {a b c : List ℕ} → Works ss a b → Works ts b c → Works (ss ++ ts) a c
+works-append {ss} {ts} {a} v w =
+    record {
+      chain = chain-append ss ts (particlesIn a) (v .chain) (subst (Chain ts) (v .last) (w .chain));
+      last = w .last ∙ ap (arrives ts) (v .last) ∙ sym (arrives-append ss ts (particlesIn a));
+      accepted = w .accepted;
+    }
+
+-- ---- entry
+
+module _ {A : Type 0} (s : Settings) (records : List ℕ) (grids : Grids) (rest : Answer A) where
+  entry-passed : {a : A} → checkEntry s records grids rest ≡ result a → (validSize (s .nx) (s .ny) ≡ true) × (validLength (length records) ≡ true) × (rest ≡ result a)
+  entry-passed e =
+      let size = passed (not (validSize (s .nx) (s .ny))) 2 0 _ e in
+      let whole = passed (not (validLength (length records))) 1 0 _ (size .1) in
+      let long = passed (not (lengthsAre (s .nx * s .ny) (length (grids .mass)) (length (grids .x)) (length (grids .y)))) 1 0 _ (whole .1) in
+      let light = passed (not (bothWithin 4096 (s .gx) (s .gy))) 10 0 rest (long .1) in
+      (not-false (validSize (s .nx) (s .ny)) (size .0), not-false (validLength (length records)) (whole .0), light .1)
+
+module _ (s : Settings) (records : List ℕ) where
+  ready-set : {ps : List Particle} → validSize (s .nx) (s .ny) ≡ true → validLength (length records) ≡ true → setIn s records ≡ result ps → Ready s records ps
+  ready-set size whole e =
+      record {
+        holds = set-particles (s .nx) (s .ny) records e;
+        limits = accepted-limits (s .nx) (s .ny) records (good-entry (s .nx) (s .ny) records size whole ∙ e);
+      }
+
+  pub ready-step : (grids : Grids) {ps : List Particle} → stepEntry s records grids ≡ result ps → Ready s records ps
+  unfolding stepEntry
+  ready-step grids e =
+      let h = entry-passed s records grids (setIn s records) e in
+      ready-set (h .0) (h .1) (h .2)
+
+  pub ready-run : (steps : ℕ) (grids : Grids) {ps : List Particle} → runEntry s steps records grids ≡ result ps → Ready s records ps
+  unfolding runEntry
+  ready-run steps grids e =
+      let h = entry-passed s records grids (refuseIf (ltb 10000 steps) 17 0 (setIn s records)) e in
+      ready-set (h .0) (h .1) (passed (ltb 10000 steps) 17 0 (setIn s records) (h .2) .1)
+
+-- ---- one step
+
+pub step-works : {s : Settings} {records : List ℕ} {ps qs : List Particle} → Ready s records ps → stepOf s ps ≡ result qs → Works (s ∷ []) records (recordsOf qs) × Ready s (recordsOf qs) qs
+unfolding arrives
+step-works {s} {records} {ps} {qs} ready e =
+    let h = completed s ps (ready .limits) e in
+    let same = step-result s ps e .1 in
+    let limits : SetLimits (s .nx) (s .ny) qs = subst (SetLimits (s .nx) (s .ny)) same (limits-after s ps h) in (
+      record {
+        chain = subst (Chain (s ∷ [])) (sym (ready .holds)) (h, tt);
+        last = records-particles limits ∙ sym same ∙ ap (stepped s) (sym (ready .holds));
+        accepted = records-accepted limits;
+      },
+      record { holds = records-particles limits; limits = limits },
+    )
+
+-- ---- the steps of a run
+
+abbrev RunWorks : Settings → List ℕ → After Completion → Type 0
+RunWorks s records r = Works (replicate (r .answer .completed) s) records (r .records)
+
+run-on : (s : Settings) (n : ℕ) (records : List ℕ) (ps : List Particle) → Accepted records → Ready s records ps → ((qs : List Particle) → Accepted (recordsOf qs) → Ready s (recordsOf qs) qs → RunWorks s (recordsOf qs) (runFrom s n (recordsOf qs) qs (nodesOf s ps))) → (a : Answer (List Particle)) → stepOf s ps ≡ a → RunWorks s records (either a (λ qs. afterOne (runFrom s n (recordsOf qs) qs (nodesOf s ps))) (λ k p. record { answer = record { completed = 0; stop = refused k p }; records = records; grids = nodesOf s ps }))
+run-on s n records ps h ready further (result qs) e =
+    let w = step-works ready e in
+    works-append (w .0) (further qs (w .0 .accepted) (w .1))
+run-on s n records ps h ready further (refused k p) e = works-none h
+
+pub run-works : (s : Settings) (n : ℕ) (records : List ℕ) (ps : List Particle) (grids : Grids) → Accepted records → Ready s records ps → RunWorks s records (runFrom s n records ps grids)
+unfolding runFrom
+run-works s zero records ps grids h ready = works-none h
+run-works s (suc n) records ps grids h ready =
+    run-on s n records ps h ready (λ qs. run-works s n (recordsOf qs) qs (nodesOf s ps)) (stepOf s ps) refl
+
+-- ---- calls
+
+abbrev CallWorks : Call → List ℕ → Type 0
+CallWorks c records = Works (replicate (completes c records) (settingsOf c)) records (leaves c records)
+
+abbrev StepWorks : Settings → List ℕ → After (Answer Unit) → Type 0
+StepWorks s records r = Works (replicate (either (r .answer) (λ _. 1) (λ n k. 0)) s) records (r .records)
+
+one-step : (s : Settings) (records : List ℕ) (ps : List Particle) → Accepted records → Ready s records ps → StepWorks s records (stepFrom s records ps)
+unfolding stepFrom
+one-step s records ps h ready = go (stepOf s ps) refl
+  where
+    go : (a : Answer (List Particle)) → stepOf s ps ≡ a → StepWorks s records (either a (λ qs. record { answer = result tt; records = recordsOf qs; grids = nodesOf s ps }) (λ n k. record { answer = refused n k; records = records; grids = nodesOf s ps }))
+    go (result qs) e = step-works ready e .0
+    go (refused n k) e = works-none h
+
+pub call-works : (c : Call) (records : List ℕ) → Accepted records → CallWorks c records
+unfolding stepAfter runAfter
+call-works (step s grids) records h = go (stepEntry s records grids) refl
+  where
+    go : (a : Answer (List Particle)) → stepEntry s records grids ≡ a → StepWorks s records (either a (λ ps. stepFrom s records ps) (λ n k. record { answer = refused n k; records = records; grids = grids }))
+    go (result ps) e = one-step s records ps h (ready-step s records grids e)
+    go (refused n k) e = works-none h
+call-works (run s steps grids) records h = go (runEntry s steps records grids) refl
+  where
+    go : (a : Answer (List Particle)) → runEntry s steps records grids ≡ a → RunWorks s records (either a (λ ps. runFrom s steps records ps grids) (λ n k. record { answer = record { completed = 0; stop = refused n k }; records = records; grids = grids }))
+    go (result ps) e = run-works s steps records ps grids h (ready-run s records steps grids e)
+    go (refused n k) e = works-none h
+
+pub calls-work : (calls : List Call) (start : List ℕ) → Accepted start → Works (settingsAll calls start) start (leavesAll calls start)
+unfolding settingsAll leavesAll
+calls-work [] start h = works-none h
+calls-work (c ∷ cs) start h =
+    let w = call-works c start h in
+    works-append w (calls-work cs (leaves c start) (w .accepted))
+
+pub calls-number : (calls : List Call) (start : List ℕ) → length (settingsAll calls start) ≡ completesAll calls start
+unfolding settingsAll completesAll
+calls-number [] start = refl
+calls-number (c ∷ cs) start =
+    length-append (replicate (completes c start) (settingsOf c)) (settingsAll cs (leaves c start))
+    ∙ ap (λ n. n + length (settingsAll cs (leaves c start))) (length-replicate (completes c start) (settingsOf c))
+    ∙ ap (λ n. completes c start + n) (calls-number cs (leaves c start))

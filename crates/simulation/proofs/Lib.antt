@@ -1,0 +1,7 @@
+pub mod Records
+pub mod Fields
+pub mod Steps
+pub mod Refusals
+pub mod Chains
+pub mod Calls
+pub mod Conserved

@@ -1,0 +1,184 @@
+-- What can refuse a step once its set is accepted: 13, 14 and 15, and nothing else. Then a run ends as document 01 says.
+--     grid-limits        the masses and momenta after the scatter keep every limit of the update
+--     update-done        so the update refuses no node
+--     velocity-limits    and no updated velocity breaks the gather's limit, 12
+--     step-refused       a step is refused for 13, 14 or 15, at one of its records
+--     run-ends           a run completes the steps wanted, or the next one is refused
+-- Assumes nothing.
+use mathlib.Core.Path.{_≡_, refl, sym, ap, _∙_, subst}
+use mathlib.Core.Bool.{Bool, true, false, _||_}
+use mathlib.Core.List.{List, [], _∷_, map}
+use mathlib.Core.Logic.{_⊎_, inl, inr, ⊎-elim}
+use Prim.Native.Nat.{ℕ, zero, suc, _+_, _*_, _/_, _%_, _^_, _≤_, _<_}
+use native.Mathlib.Nat.{mod-lt, div-lt-iff-lt-mul, mul-comm}
+use native.Mathlib.Omega.{arith}
+use lib.ListN.{length, getD, replicate}
+use lib.IntN.{ℤ, pos, natAbs}
+use lib.Signed.{_≤ℤ_}
+use Rattle.arith.specs.Order.{Within, nonneg-pos, pos-cancel}
+use Rattle.arith.specs.Size.{bound-within, within-bound}
+use Rattle.arith.specs.Sums.{Each, upTo, each-upTo}
+use Rattle.refusal.specs.Refused.{Answer, result, refused, refuseIf}
+use Rattle.refusal.proofs.Answers.{not-refused}
+use Rattle.spline.specs.Spline.{axisWeight}
+use Rattle.particle.specs.declared.Particle.{Particle}
+use Rattle.particles.specs.Set.{recordsOf}
+use Rattle.apic.specs.Step.{Axis, alongX, alongY, newCoordinate, nodeMass}
+use Rattle.apic.specs.Limits.{SetLimits}
+use Rattle.apic.proofs.Bounds as bounds
+use Rattle.apic.proofs.Bounds.{limited-set, node-limits}
+use Rattle.apic.proofs.Spline.{spline-near, spline-placed, spline-updated}
+use Rattle.unpacked.proofs.Laws.{length-tabulated}
+use Rattle.gather_core.specs.Gather.{beyond, offAxis, moveCheck, moveChecks, NodeVelocities}
+use Rattle.update.specs.Checks.{done}
+use Rattle.update.specs.Update.{velocityOf, NodeLimits, GridLimits, updateAnswer}
+use Rattle.update.proofs.Answers.{update-accepts}
+use Rattle.simulation.specs.declared.Settings.{Settings}
+use Rattle.simulation.specs.Step.{Grids, either, gravity, masses, momenta, updatedVelocities, move, stepped, stepOf, nodesOf}
+use Rattle.simulation.specs.Run.{Completion, afterOne, runFrom}
+use Rattle.simulation.specs.Demand3.{arrives}
+use Rattle.simulation.proofs.Fields.{round, round-nearest, updatedField, mass-at, momentum-at, velocity-grid}
+use Rattle.simulation.proofs.Steps.{step-result}
+
+-- ---- the update
+
+inside : (k nx ny : ℕ) → k < nx * ny → (k % nx < nx) × (k / nx < ny)
+inside k zero ny h = absurd (none k ny h)
+  where
+    none : (k ny : ℕ) → k < zero * ny → ⊥
+    none k ny h = omega arith
+inside k (suc n) ny h =
+    let some : 0 < suc n = omega arith in
+    (mod-lt k some, div-lt-iff-lt-mul some .1 (subst (λ m. k < m) (mul-comm (suc n) ny) h))
+
+module _ (s : Settings) (ps : List Particle) (limits : SetLimits (s .nx) (s .ny) ps) (light : (a : Axis) → natAbs (gravity s a) ≤ 4096) where
+  updated-most : (a : Axis) (i j : ℕ) → natAbs (updatedField s a ps i j) ≤ 131072
+  updated-most a i j =
+      within-bound (spline-updated (s .nx) (s .ny) ps (limited-set limits) round round-nearest (gravity s a) (bound-within (record { size = light a })) a i j) .size
+
+  node-at : (k : ℕ) → k < s .nx * s .ny → bounds.NodeLimits axisWeight ps (k % s .nx) (k / s .nx)
+  node-at k h =
+      let c = inside k (s .nx) (s .ny) h in
+      node-limits axisWeight spline-near (s .nx) (s .ny) ps (spline-placed (s .nx) (s .ny) ps (limits .each)) (limited-set limits) (k % s .nx) (k / s .nx) (c .0) (c .1)
+
+  module _ (k : ℕ) (h : k < s .nx * s .ny) where
+    mass-is : nodeMass axisWeight ps (k % s .nx) (k / s .nx) ≡ pos (getD (masses s ps) k 0)
+    mass-is = nonneg-pos (node-at k h .mass-least) ∙ ap pos (sym (mass-at s ps k h))
+
+    mass-most : getD (masses s ps) k 0 ≤ 2 ^ 43
+    mass-most = pos-cancel (subst (λ z. z ≤ℤ pos (2 ^ 43)) mass-is (node-at k h .mass-most))
+
+    no-momentum : (a : Axis) → getD (masses s ps) k 0 ≡ 0 → getD (momenta s a ps) k (pos 0) ≡ pos 0
+    no-momentum a e = momentum-at s ps a k h ∙ node-at k h .no-momentum a (mass-is ∙ ap pos e)
+
+    velocity-most : (a : Axis) → natAbs (velocityOf (gravity s a) (getD (masses s ps) k 0) (getD (momenta s a ps) k (pos 0))) ≤ 131072
+    velocity-most a =
+        rw (mass-at s ps k h, momentum-at s ps a k h) (updated-most a (k % s .nx) (k / s .nx))
+
+  pub grid-limits : GridLimits (s .nx * s .ny) (s .gx) (s .gy) (masses s ps) (momenta s alongX ps) (momenta s alongY ps)
+  unfolding masses momenta
+  grid-limits =
+      record {
+        mass-length = length-tabulated _ (s .nx * s .ny);
+        px-length = length-tabulated _ (s .nx * s .ny);
+        py-length = length-tabulated _ (s .nx * s .ny);
+        gravity-x = light alongX;
+        gravity-y = light alongY;
+        nodes = λ k h.
+            record {
+              mass = mass-most k h;
+              massless-x = no-momentum k h alongX;
+              massless-y = no-momentum k h alongY;
+              vx = velocity-most k h alongX;
+              vy = velocity-most k h alongY;
+            };
+      }
+
+  pub update-done : updateAnswer (s .nx) (s .ny) (s .gx) (s .gy) (masses s ps) (momenta s alongX ps) (momenta s alongY ps) ≡ done
+  update-done = update-accepts (s .nx) (s .ny) (s .gx) (s .gy) (masses s ps) (momenta s alongX ps) (momenta s alongY ps) (limits .sizes) grid-limits
+
+  pub velocity-limits : (a : Axis) → NodeVelocities (s .nx) (s .ny) (updatedVelocities s a ps)
+  velocity-limits a =
+      subst (NodeVelocities (s .nx) (s .ny)) (sym (velocity-grid s ps a))
+      (record {
+        count = length-tabulated _ (s .nx * s .ny);
+        each = each-image _ _ (upTo (s .nx * s .ny)) (each-upTo _ (s .nx * s .ny) (λ k h. updated-most a (k % s .nx) (k / s .nx)));
+      })
+    where
+      each-image : {A B : Type 0} (P : B → Type 0) (f : A → B) (xs : List A) → Each (λ x. P (f x)) xs → Each P (map f xs)
+      each-image P f [] e = tt
+      each-image P f (x ∷ xs) e = (e .0, each-image P f xs (e .1))
+
+-- ---- the step
+
+-- 13, 14 or 15, at one of so many records
+pub record MoveRefusal (count n k : ℕ) : Type 0 where
+  pub least : 13 ≤ n
+  pub most : n ≤ 15
+  pub place : k < count
+
+refused-for : {A : Type 0} (b : Bool) (m j : ℕ) (rest : Answer A) {n k : ℕ} → refuseIf b m j rest ≡ refused n k → ((n ≡ m) × (k ≡ j)) ⊎ (rest ≡ refused n k)
+refused-for true m j rest e = inl (cc, cc)
+refused-for false m j rest e = inr e
+
+move-refused : {A : Type 0} (nx ny : ℕ) (p q : Particle) (j : ℕ) (rest : Answer A) {n k : ℕ} → moveCheck nx ny p q j rest ≡ refused n k → ((13 ≤ n) × (n ≤ 15) × (k ≡ j)) ⊎ (rest ≡ refused n k)
+unfolding moveCheck
+move-refused nx ny p q j rest {n} {k} e =
+    ⊎-elim (λ h. inl (at (h .0) (h .1) (omega arith) (omega arith)))
+    (λ e. ⊎-elim (λ h. inl (at (h .0) (h .1) (omega arith) (omega arith)))
+    (λ e. ⊎-elim (λ h. inl (at (h .0) (h .1) (omega arith) (omega arith))) inr
+    (refused-for (offAxis nx (newCoordinate alongX p (q .vx)) || offAxis ny (newCoordinate alongY p (q .vy))) 15 j rest e))
+    (refused-for ((beyond 2047 (q .bxx) || beyond 2047 (q .bxy)) || (beyond 2047 (q .byx) || beyond 2047 (q .byy))) 14 j _ e))
+    (refused-for (beyond 63 (q .vx) || beyond 63 (q .vy)) 13 j _ e)
+  where
+    at : {m : ℕ} → n ≡ m → k ≡ j → 13 ≤ m → m ≤ 15 → (13 ≤ n) × (n ≤ 15) × (k ≡ j)
+    at {m} e f l u = (omega arith, omega arith, f)
+
+moves-refused : {A : Type 0} (nx ny : ℕ) (move : Particle → Particle) (j : ℕ) (ps : List Particle) (a : A) {n k : ℕ} → moveChecks nx ny move j ps (result a) ≡ refused n k → MoveRefusal (j + length ps) n k
+unfolding moveChecks
+moves-refused nx ny move j [] a e = not-refused e
+moves-refused nx ny move j (p ∷ ps) a {n} {k} e =
+    ⊎-elim (λ h. first (h .0) (h .1) (h .2)) (λ e. later (moves-refused nx ny move (suc j) ps a e))
+    (move-refused nx ny p (move p) j (moveChecks nx ny move (suc j) ps (result a)) e)
+  where
+    first : 13 ≤ n → n ≤ 15 → k ≡ j → MoveRefusal (j + length (p ∷ ps)) n k
+    first l u f = record { least = l; most = u; place = omega arith }
+
+    later : MoveRefusal (suc j + length ps) n k → MoveRefusal (j + length (p ∷ ps)) n k
+    later h = record { least = h .least; most = h .most; place = omega (arith, h .place) }
+
+pub step-refused : (s : Settings) (ps : List Particle) {n k : ℕ} → stepOf s ps ≡ refused n k → MoveRefusal (length ps) n k
+unfolding stepOf
+step-refused s ps {n} {k} e =
+    let h = moves-refused (s .nx) (s .ny) (move s ps) 0 ps (stepped s ps) e in
+    record { least = h .least; most = h .most; place = omega (arith, h .place) }
+
+-- ---- the run
+
+-- the step after so many completed ones is refused
+pub record Stops (s : Settings) (wanted : ℕ) (ps : List Particle) (r : Completion) : Type 0 where
+  pub number : ℕ
+  pub place : ℕ
+  pub fewer : r .completed < wanted
+  pub stopped : r .stop ≡ refused number place
+  pub refuses : stepOf s (arrives (replicate (r .completed) s) ps) ≡ refused number place
+
+abbrev pub Ends : Settings → ℕ → List Particle → Completion → Type 0
+Ends s wanted ps r = ((r .completed ≡ wanted) × (r .stop ≡ done)) ⊎ Stops s wanted ps r
+
+one-more : (s : Settings) (n : ℕ) (ps : List Particle) (r : Completion) → Ends s n (stepped s ps) r → Ends s (suc n) ps (record { completed = suc (r .completed); stop = r .stop })
+unfolding arrives
+one-more s n ps r (inl h) = inl (ap suc (h .0), h .1)
+one-more s n ps r (inr h) =
+    inr (record { number = h .number; place = h .place; fewer = omega (arith, h .fewer); stopped = h .stopped; refuses = h .refuses })
+
+pub run-ends : (s : Settings) (n : ℕ) (records : List ℕ) (ps : List Particle) (grids : Grids) → Ends s n ps (runFrom s n records ps grids .answer)
+unfolding runFrom arrives
+run-ends s zero records ps grids = inl (refl, refl)
+run-ends s (suc n) records ps grids = go (λ qs. run-ends s n (recordsOf qs) qs (nodesOf s ps)) (stepOf s ps) refl
+  where
+    go : ((qs : List Particle) → Ends s n qs (runFrom s n (recordsOf qs) qs (nodesOf s ps) .answer)) → (a : Answer (List Particle)) → stepOf s ps ≡ a → Ends s (suc n) ps (either a (λ qs. afterOne (runFrom s n (recordsOf qs) qs (nodesOf s ps))) (λ k p. record { answer = record { completed = 0; stop = refused k p }; records = records; grids = nodesOf s ps }) .answer)
+    go further (result qs) e =
+        one-more s n ps (runFrom s n (recordsOf qs) qs (nodesOf s ps) .answer)
+        (subst (λ l. Ends s n l (runFrom s n (recordsOf qs) qs (nodesOf s ps) .answer)) (sym (step-result s ps e .1)) (further qs))
+    go further (refused k p) e = inr (record { number = k; place = p; fewer = omega arith; stopped = refl; refuses = e })

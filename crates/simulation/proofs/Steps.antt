@@ -1,0 +1,118 @@
+-- One completed step.
+--     Completed           a step from ps that is not refused, ps breaking no limit
+--     step-result         a step that is not refused passed its checks and leads to `stepped`
+--     completed           so it is completed
+--     limits-after        the particles after it break no limit
+--     kept-identifiers, kept-masses, kept-mass
+--                         identifiers and masses are kept
+--     step-linear, step-angular
+--                         demand 3 for one step
+-- Assumes nothing.
+use mathlib.Core.Path.{_≡_, refl, sym, ap, _∙_, subst}
+use mathlib.Core.List.{List, [], _∷_, map}
+use Prim.Native.Nat.{ℕ, suc}
+use lib.Dec.{T}
+use lib.IntN.{ℤ, pos, _+ℤ_, _-ℤ_, _*ℤ_}
+use lib.Signed.{_≤ℤ_, nonNeg, pos-natAbs}
+use Rattle.arith.specs.Order.{Within, pos-nonneg}
+use Rattle.arith.specs.Sums.{Each, each-map}
+use Rattle.refusal.specs.Refused.{Answer, result, refused}
+use Rattle.refusal.proofs.Answers.{same-result, not-result}
+use Rattle.spline.specs.Spline.{axisWeight}
+use Rattle.particle.specs.declared.Particle.{Particle}
+use Rattle.apic.specs.Step.{Axis, alongX, alongY, newCoordinate, moved, node}
+use Rattle.apic.specs.Totals.{totalMass, momentum, angularMomentum, torque, firstMoment}
+use Rattle.apic.specs.Limits.{SetLimits}
+use Rattle.apic.proofs.Gather.{along, NewPlace, gather-identifiers, gather-masses, gather-mass}
+use Rattle.apic.proofs.Fields.{velocity-fields}
+use Rattle.apic.proofs.Spline.{spline-placed}
+use Rattle.apic.proofs.Conservation as apic
+use Rattle.gather_core.specs.Gather.{moveChecks}
+use Rattle.gather_core.proofs.Checks.{follow, checks-follow, Passed, passed}
+use Rattle.gather_core.proofs.Kept.{set-kept}
+use Rattle.simulation.specs.declared.Settings.{Settings}
+use Rattle.simulation.specs.Step.{gravity, updatedVelocities, move, stepped, stepOf}
+use Rattle.simulation.proofs.Fields.{round, round-nearest, updatedField, field, stepped-is}
+
+-- the checks of a step, apart from what it leads to
+abbrev pub checks : Settings → List Particle → Answer (Unit {0})
+checks s ps = moveChecks (s .nx) (s .ny) (move s ps) 0 ps (result tt)
+
+pub record Completed (s : Settings) (ps : List Particle) : Type 0 where
+  pub limits : SetLimits (s .nx) (s .ny) ps
+  pub checked : checks s ps ≡ result tt
+  pub unrefused : stepOf s ps ≡ result (stepped s ps)
+
+followed : {A : Type 0} (a : Answer (Unit {0})) (b c : A) → follow a (result b) ≡ result c → (a ≡ result tt) × (b ≡ c)
+followed (result u) b c e = (refl, same-result e)
+followed (refused n k) b c e = not-result e
+
+pub step-result : (s : Settings) (ps : List Particle) {qs : List Particle} → stepOf s ps ≡ result qs → (checks s ps ≡ result tt) × (stepped s ps ≡ qs)
+unfolding stepOf
+step-result s ps {qs} e =
+    followed (checks s ps) (stepped s ps) qs (sym (checks-follow (s .nx) (s .ny) (move s ps) 0 ps (result (stepped s ps))) ∙ e)
+
+pub completed : (s : Settings) (ps : List Particle) {qs : List Particle} → SetLimits (s .nx) (s .ny) ps → stepOf s ps ≡ result qs → Completed s ps
+completed s ps limits e =
+    let h = step-result s ps e in
+    record { limits = limits; checked = h .0; unrefused = e ∙ ap result (sym (h .1)) }
+
+all-passed : (nx ny : ℕ) (move : Particle → Particle) (k : ℕ) (ps : List Particle) → moveChecks nx ny move k ps (result (tt {0})) ≡ result tt → Each (λ p. Passed nx ny p (move p)) ps
+unfolding moveChecks
+all-passed nx ny move k [] e = tt
+all-passed nx ny move k (p ∷ ps) e =
+    let h = passed nx ny p (move p) k (moveChecks nx ny move (suc k) ps (result tt)) e in
+    (h .0, all-passed nx ny move (suc k) ps (h .1))
+
+-- ---- what is kept
+
+module _ (s : Settings) (ps : List Particle) where
+  abbrev ux : ℕ → ℕ → ℤ
+  ux = node (s .nx) (updatedVelocities s alongX ps)
+
+  abbrev uy : ℕ → ℕ → ℤ
+  uy = node (s .nx) (updatedVelocities s alongY ps)
+
+  pub kept-identifiers : map (λ p. p .identifier) (stepped s ps) ≡ map (λ p. p .identifier) ps
+  unfolding stepped
+  kept-identifiers = gather-identifiers round axisWeight (s .nx) (s .ny) ux uy ps
+
+  pub kept-masses : map (λ p. p .mass) (stepped s ps) ≡ map (λ p. p .mass) ps
+  unfolding stepped
+  kept-masses = gather-masses round axisWeight (s .nx) (s .ny) ux uy ps
+
+  pub kept-mass : totalMass (stepped s ps) ≡ totalMass ps
+  unfolding stepped
+  kept-mass = gather-mass round axisWeight (s .nx) (s .ny) ux uy ps
+
+  module _ (h : Completed s ps) where
+    pub limits-after : SetLimits (s .nx) (s .ny) (stepped s ps)
+    unfolding stepped
+    limits-after = set-kept (s .nx) (s .ny) (updatedVelocities s alongX ps) (updatedVelocities s alongY ps) 0 ps (h .limits) (h .checked)
+
+    new-place : (p : Particle) → Passed (s .nx) (s .ny) p (move s ps p) → NewPlace round axisWeight (s .nx) (s .ny) (updatedField s alongX ps) (updatedField s alongY ps) p
+    unfolding moved
+    new-place p m =
+        record {
+          new-x = subst (λ v. pos 0 ≤ℤ newCoordinate alongX p v) (velocity-fields round axisWeight (s .nx) (s .ny) ux (updatedField s alongX ps) (field s ps alongX) p) (nonneg (m .x .0));
+          new-y = subst (λ v. pos 0 ≤ℤ newCoordinate alongY p v) (velocity-fields round axisWeight (s .nx) (s .ny) uy (updatedField s alongY ps) (field s ps alongY) p) (nonneg (m .y .0));
+        }
+      where
+        nonneg : {z : ℤ} → T (nonNeg z) → pos 0 ≤ℤ z
+        nonneg {z} t = subst (λ y. pos 0 ≤ℤ y) (pos-natAbs z t) (pos-nonneg _)
+
+    pub step-linear : (a : Axis) → Within (pos 257 *ℤ pos (totalMass ps)) (pos 512 *ℤ (momentum a (stepped s ps) -ℤ momentum a ps) -ℤ pos 2 *ℤ (pos (totalMass ps) *ℤ gravity s a))
+    step-linear a =
+        subst (λ g. Within (pos 257 *ℤ pos (totalMass ps)) (pos 512 *ℤ (momentum a (stepped s ps) -ℤ momentum a ps) -ℤ pos 2 *ℤ (pos (totalMass ps) *ℤ g))) (same a)
+        (subst (λ qs. Within (pos 257 *ℤ pos (totalMass ps)) (pos 512 *ℤ (momentum a qs -ℤ momentum a ps) -ℤ pos 2 *ℤ (pos (totalMass ps) *ℤ along a (s .gx) (s .gy)))) (sym (stepped-is s ps))
+        (apic.step-linear round round-nearest axisWeight (s .nx) (s .ny) (s .gx) (s .gy) ps (spline-placed (s .nx) (s .ny) ps (h .limits .each)) a))
+      where
+        same : (a : Axis) → along a (s .gx) (s .gy) ≡ gravity s a
+        same alongX = refl
+        same alongY = refl
+
+    pub step-angular : Within (pos 512 *ℤ pos (totalMass ps) +ℤ pos 257 *ℤ firstMoment ps) (pos 512 *ℤ (angularMomentum (stepped s ps) -ℤ angularMomentum ps) -ℤ pos 2 *ℤ torque (s .gx) (s .gy) ps)
+    step-angular =
+        subst (λ qs. Within (pos 512 *ℤ pos (totalMass ps) +ℤ pos 257 *ℤ firstMoment ps) (pos 512 *ℤ (angularMomentum qs -ℤ angularMomentum ps) -ℤ pos 2 *ℤ torque (s .gx) (s .gy) ps)) (sym (stepped-is s ps))
+        (apic.step-angular round round-nearest axisWeight (s .nx) (s .ny) (s .gx) (s .gy) ps (spline-placed (s .nx) (s .ny) ps (h .limits .each))
+        (each-map _ _ new-place ps (all-passed (s .nx) (s .ny) (move s ps) 0 ps (h .checked))))

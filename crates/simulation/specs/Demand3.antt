@@ -1,0 +1,125 @@
+-- Demand 3, and document 01's "The lists of demand 3": what every list of step and run calls keeps, as one claim.
+-- This file says, in this order, what a call is and what it leaves of the records, which steps a list of calls completed,
+-- and the claim. Totals are those of apic's specs/Totals.antt. `Within k z` says that −k ≤ z ≤ k. Assumes nothing.
+use mathlib.Core.Path.{_≡_}
+use mathlib.Core.List.{List, [], _∷_, _++_, map}
+use Prim.Native.Nat.{ℕ, _+_}
+use lib.ListN.{length, replicate}
+use lib.IntN.{ℤ, pos, _+ℤ_, _-ℤ_, _*ℤ_}
+use Rattle.arith.specs.Order.{Within}
+use Rattle.arith.specs.Sums.{Each, sumOver}
+use Rattle.refusal.specs.Refused.{result}
+use Rattle.particle.specs.declared.Particle.{Particle}
+use Rattle.apic.specs.Step.{Axis}
+use Rattle.apic.specs.Totals.{totalMass, momentum, angularMomentum, torque, firstMoment}
+use Rattle.particles.specs.Set.{particlesIn, checkAnswer}
+use Rattle.simulation.specs.declared.Settings.{Settings}
+use Rattle.simulation.specs.Step.{Grids, either, gravity, stepped, stepOf, stepAfter}
+use Rattle.simulation.specs.Run.{runAfter}
+
+-- ---- records
+
+-- check a set accepts the records, for some sizes
+pub record Accepted (records : List ℕ) : Type 0 where
+  pub nx : ℕ
+  pub ny : ℕ
+  pub count : ℕ
+  pub accepts : checkAnswer nx ny records ≡ result count
+
+-- ---- calls
+
+-- a call is everything that a step or run is given beside the records: settings, the number of steps, and the three grids
+-- with any contents and any lengths
+pub data Call : Type 0 where
+  step : Settings → Grids → Call
+  run : Settings → ℕ → Grids → Call
+
+abbrev pub settingsOf : Call → Settings
+settingsOf (step s grids) = s
+settingsOf (run s steps grids) = s
+
+-- the records that a call leaves
+abbrev pub leaves : Call → List ℕ → List ℕ
+leaves (step s grids) records = stepAfter s records grids .records
+leaves (run s steps grids) records = runAfter s steps records grids .records
+
+-- the number of steps that it says it completed: one or none, or the number that the run answers
+abbrev pub completes : Call → List ℕ → ℕ
+completes (step s grids) records = either (stepAfter s records grids .answer) (λ _. 1) (λ n k. 0)
+completes (run s steps grids) records = runAfter s steps records grids .answer .completed
+
+-- ---- lists of calls: each gets the records that the one before left
+
+unfoldable pub leavesAll : List Call → List ℕ → List ℕ
+leavesAll [] records = records
+leavesAll (c ∷ cs) records = leavesAll cs (leaves c records)
+
+-- n, the sum of what the calls say
+unfoldable pub completesAll : List Call → List ℕ → ℕ
+completesAll [] records = 0
+completesAll (c ∷ cs) records = completes c records + completesAll cs (leaves c records)
+
+-- the settings of the completed steps, in order: those that the step's call was given
+unfoldable pub settingsAll : List Call → List ℕ → List Settings
+settingsAll [] records = []
+settingsAll (c ∷ cs) records = replicate (completes c records) (settingsOf c) ++ settingsAll cs (leaves c records)
+
+-- ---- the completed steps
+
+-- a step's settings, and the particles just before and after it
+pub record CompletedStep : Type 0 where
+  pub settings : Settings
+  pub before : List Particle
+  pub after : List Particle
+
+-- what "The step" gives, worked from the particles ps through steps with these settings, and what it comes to
+unfoldable pub worked : List Settings → List Particle → List CompletedStep
+worked [] ps = []
+worked (s ∷ ss) ps = record { settings = s; before = ps; after = stepped s ps } ∷ worked ss (stepped s ps)
+
+unfoldable pub arrives : List Settings → List Particle → List Particle
+arrives [] ps = ps
+arrives (s ∷ ss) ps = arrives ss (stepped s ps)
+
+abbrev pub completedSteps : List Call → List ℕ → List CompletedStep
+completedSteps calls start = worked (settingsAll calls start) (particlesIn start)
+
+-- gravity's share of momentum, and its torque, in a completed step, both times 256
+abbrev pub shareOf : Axis → CompletedStep → ℤ
+shareOf a c = pos (totalMass (c .before)) *ℤ gravity (c .settings) a
+
+abbrev pub torqueOf : CompletedStep → ℤ
+torqueOf c = torque (c .settings .gx) (c .settings .gy) (c .before)
+
+-- the sum of mass times (x + y), taken before it
+abbrev pub momentOf : CompletedStep → ℤ
+momentOf c = firstMoment (c .before)
+
+-- ---- the claim
+
+-- what n completed steps from ps to qs keep; all of it times 512
+pub record Keeps (n : ℕ) (steps : List CompletedStep) (ps qs : List Particle) : Type 0 where
+  -- the same identifiers and masses in the same order
+  pub identifiers : map (λ p. p .identifier) qs ≡ map (λ p. p .identifier) ps
+  pub masses : map (λ p. p .mass) qs ≡ map (λ p. p .mass) ps
+  -- momentum is the start's plus gravity's shares, within n times 257/512 of the total mass
+  pub linear : (a : Axis) → Within (pos n *ℤ (pos 257 *ℤ pos (totalMass ps))) (pos 512 *ℤ (momentum a qs -ℤ momentum a ps) -ℤ pos 2 *ℤ sumOver steps (shareOf a))
+  -- angular momentum is the start's plus gravity's torques, within n times the total mass plus 257/512 of the sums of mass
+  -- times (x + y)
+  pub angular : Within (pos n *ℤ (pos 512 *ℤ pos (totalMass ps)) +ℤ pos 257 *ℤ sumOver steps momentOf) (pos 512 *ℤ (angularMomentum qs -ℤ angularMomentum ps) -ℤ pos 2 *ℤ sumOver steps torqueOf)
+
+pub record Conserves (calls : List Call) (start : List ℕ) : Type 0 where
+  -- as many records as at the start
+  pub count : length (leavesAll calls start) ≡ length start
+  pub whole : Keeps (completesAll calls start) (completedSteps calls start) (particlesIn start) (particlesIn (leavesAll calls start))
+  -- every completed step by itself, with n = 1
+  pub each : Each (λ c. Keeps 1 (c ∷ []) (c .before) (c .after)) (completedSteps calls start)
+  -- the completed steps are as many as the calls say; no limit refuses one of them; the records left hold the last one
+  pub number : length (completedSteps calls start) ≡ completesAll calls start
+  pub unrefused : Each (λ c. stepOf (c .settings) (c .before) ≡ result (c .after)) (completedSteps calls start)
+  pub last : particlesIn (leavesAll calls start) ≡ arrives (settingsAll calls start) (particlesIn start)
+  -- and are again a set that check a set accepts
+  pub accepted : Accepted (leavesAll calls start)
+
+abbrev pub Demand3 : Type 0
+Demand3 = (start : List ℕ) → Accepted start → (calls : List Call) → Conserves calls start

@@ -1,0 +1,50 @@
+-- Document 01, "A run repeats the step", and the operation run: what a caller with any numbers and any buffers sees after a
+-- call. Assumes nothing.
+use mathlib.Core.List.{List}
+use Prim.Native.Nat.{ℕ, zero, suc}
+use lib.Dec.{ltb}
+use Rattle.refusal.specs.Refused.{Answer, refused, refusedBy, refuseIf}
+use Rattle.particle.specs.declared.Particle.{Particle}
+use Rattle.particles.specs.Set.{recordsOf}
+use Rattle.update.specs.Checks.{done}
+use Rattle.simulation.specs.declared.Settings.{Settings}
+use Rattle.simulation.specs.declared.Ran.{Ran}
+use Rattle.simulation.specs.declared.Ran.the-variants.{Done, Stopped}
+use Rattle.simulation.specs.Step.{Grids, After, either, checkEntry, setIn, stepOf, nodesOf}
+
+-- "the number of completed steps, and the first refusal if one stopped it"; `done` where none did
+pub record Completion : Type 0 where
+  pub completed : ℕ
+  pub stop : Answer Unit
+
+-- one completed step more
+abbrev pub afterOne : After Completion → After Completion
+afterOne r =
+    record {
+      answer = record { completed = suc (r .answer .completed); stop = r .answer .stop };
+      records = r .records;
+      grids = r .grids;
+    }
+
+-- n steps from the particles ps of the records, or as many as come before the first that is refused: it leaves the records
+-- of the last completed step and the grids of the last step tried
+unfoldable pub runFrom : Settings → ℕ → List ℕ → List Particle → Grids → After Completion
+runFrom s zero records ps grids = record { answer = record { completed = 0; stop = done }; records = records; grids = grids }
+runFrom s (suc n) records ps grids =
+    either (stepOf s ps)
+    (λ qs. afterOne (runFrom s n (recordsOf qs) qs (nodesOf s ps)))
+    (λ k p. record { answer = record { completed = 0; stop = refused k p }; records = records; grids = nodesOf s ps })
+
+-- 2; 1, also for the grid buffers; 10; 17 steps above 10,000; the set
+unfoldable pub runEntry : Settings → ℕ → List ℕ → Grids → Answer (List Particle)
+runEntry s steps records grids = checkEntry s records grids (refuseIf (ltb 10000 steps) 17 0 (setIn s records))
+
+-- "a run refused at entry answers 0 completed steps with that refusal", and nothing has changed
+unfoldable pub runAfter : Settings → ℕ → List ℕ → Grids → After Completion
+runAfter s steps records grids =
+    either (runEntry s steps records grids) (λ ps. runFrom s steps records ps grids)
+    (λ n k. record { answer = record { completed = 0; stop = refused n k }; records = records; grids = grids })
+
+abbrev pub toldRan : Ran → Completion
+toldRan (Done n) = record { completed = n; stop = done }
+toldRan (Stopped n e) = record { completed = n; stop = refusedBy e }

@@ -1,0 +1,104 @@
+-- Document 01, "The step" and the operation step: scatter, update and gather on a particle set, and what a caller with any
+-- numbers and any buffers sees after a call: the answer, the records and the three grids. Assumes nothing.
+use mathlib.Core.Bool.{not}
+use mathlib.Core.List.{List, map}
+use Prim.Native.Nat.{ℕ, _*_}
+use lib.ListN.{length}
+use lib.IntN.{ℤ, pos, natAbs}
+use Rattle.refusal.specs.Refused.{Answer, result, refused, refusedBy, refuseIf}
+use Rattle.spline.specs.Spline.{axisWeight}
+use Rattle.particle.specs.declared.Particle.{Particle}
+use Rattle.apic.specs.Step.{Axis, alongX, alongY, grid, nodeMass, nodeMomentum}
+use Rattle.particles.specs.Set.{validSize, validLength, recordCount, setOf, recordsOf}
+use Rattle.gather_core.specs.Gather.{gathered, moveChecks}
+use Rattle.update.specs.Checks.{checkLengths, checkGravity, done}
+use Rattle.update.specs.Update.{velocities}
+use Rattle.simulation.specs.declared.Settings.{Settings}
+use Rattle.simulation.specs.declared.Stepped.{Stepped}
+use Rattle.simulation.specs.declared.Stepped.the-variants.{Done, Refused}
+
+abbrev pub gravity : Settings → Axis → ℤ
+gravity s alongX = s .gx
+gravity s alongY = s .gy
+
+-- ---- scatter, update, gather
+
+-- the node masses, and the node momenta on an axis, after the scatter
+unfoldable pub masses : Settings → List Particle → List ℕ
+masses s ps = grid (s .nx) (s .ny) (λ i j. natAbs (nodeMass axisWeight ps i j))
+
+unfoldable pub momenta : Settings → Axis → List Particle → List ℤ
+momenta s a ps = grid (s .nx) (s .ny) (nodeMomentum axisWeight (pos 1024) a ps)
+
+-- the node velocities on an axis after the update
+unfoldable pub updatedVelocities : Settings → Axis → List Particle → List ℤ
+updatedVelocities s a ps = velocities (s .nx * s .ny) (gravity s a) (masses s ps) (momenta s a ps)
+
+-- a particle after the gather
+abbrev pub move : Settings → List Particle → Particle → Particle
+move s ps = gathered (s .nx) (s .ny) (updatedVelocities s alongX ps) (updatedVelocities s alongY ps)
+
+-- the particles after a step
+unfoldable pub stepped : Settings → List Particle → List Particle
+stepped s ps = map (move s ps) ps
+
+-- a step that is tried: for each record 13, 14, 15
+unfoldable pub stepOf : Settings → List Particle → Answer (List Particle)
+stepOf s ps = moveChecks (s .nx) (s .ny) (move s ps) 0 ps (result (stepped s ps))
+
+-- ---- what a caller sees
+
+-- the three grids: node masses, and momenta or velocities on each axis
+pub record Grids : Type 0 where
+  pub mass : List ℕ
+  pub x : List ℤ
+  pub y : List ℤ
+
+-- "the grid holds masses and updated velocities of the last step tried"
+abbrev pub nodesOf : Settings → List Particle → Grids
+nodesOf s ps = record { mass = masses s ps; x = updatedVelocities s alongX ps; y = updatedVelocities s alongY ps }
+
+-- the answer of a call, and the records and grids as it leaves them
+pub record After (A : Type 0) : Type 0 where
+  pub answer : A
+  pub records : List ℕ
+  pub grids : Grids
+
+-- an answer's two cases
+abbrev pub either : {A B : Type 0} → Answer A → (A → B) → (ℕ → ℕ → B) → B
+either (result a) accept refuse = accept a
+either (refused n k) accept refuse = refuse n k
+
+-- ---- the operation
+
+-- 2; 1, also for the grid buffers; 10
+abbrev pub checkEntry : {A : Type 0} → Settings → List ℕ → Grids → Answer A → Answer A
+checkEntry s records grids rest =
+    refuseIf (not (validSize (s .nx) (s .ny))) 2 0
+    (refuseIf (not (validLength (length records))) 1 0
+    (checkLengths (s .nx * s .ny) (length (grids .mass)) (length (grids .x)) (length (grids .y))
+    (checkGravity (s .gx) (s .gy) rest)))
+
+-- the set
+abbrev pub setIn : Settings → List ℕ → Answer (List Particle)
+setIn s records = setOf (s .nx) (s .ny) 0 records (recordCount records)
+
+unfoldable pub stepEntry : Settings → List ℕ → Grids → Answer (List Particle)
+stepEntry s records grids = checkEntry s records grids (setIn s records)
+
+-- a step from the particles ps of the records: on 13, 14, 15 no record has moved
+unfoldable pub stepFrom : Settings → List ℕ → List Particle → After (Answer Unit)
+stepFrom s records ps =
+    either (stepOf s ps)
+    (λ qs. record { answer = done; records = recordsOf qs; grids = nodesOf s ps })
+    (λ n k. record { answer = refused n k; records = records; grids = nodesOf s ps })
+
+-- refused at entry, nothing has changed
+unfoldable pub stepAfter : Settings → List ℕ → Grids → After (Answer Unit)
+stepAfter s records grids =
+    either (stepEntry s records grids) (λ ps. stepFrom s records ps)
+    (λ n k. record { answer = refused n k; records = records; grids = grids })
+
+abbrev pub toldStepped : Stepped → Answer Unit
+toldStepped Done = done
+toldStepped (Refused e) = refusedBy e
