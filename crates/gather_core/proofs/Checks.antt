@@ -8,7 +8,7 @@
 use mathlib.Core.Path.{_≡_, refl, sym, ap, subst, _∙_}
 use mathlib.Core.Bool.{Bool, true, false, not, _&&_, _||_}
 use mathlib.Core.List.{List, [], _∷_}
-use Prim.Native.Nat.{ℕ, suc, _-_, _*_, _≤_, _<_}
+use Prim.Native.Nat.{ℕ, suc, _-_, _*_, _≤_}
 use native.Mathlib.Omega.{arith}
 use lib.Dec.{T, leb, ltb}
 use lib.IntN.{ℤ, pos, negsuc, natAbs, _-ℤ_}
@@ -20,7 +20,7 @@ use Rattle.refusal.specs.Refused.{Answer, result, refused, refuseIf}
 use Rattle.spline.specs.Spline.{onAxis}
 use Rattle.particle.specs.declared.Particle.{Particle}
 use Rattle.apic.specs.Step.{newCoordinate, alongX, alongY}
-use Rattle.gather_core.specs.Gather.{beyond, offAxis, moveCheck, moveChecks}
+use Rattle.gather_core.specs.Gather.{beyond, tooFast, tooSteep, offAxis, offGrid, moveCheck, moveChecks}
 
 pub or-left : {r a : Bool} (b : Bool) → r ≡ a → r ≡ true → true ≡ a || b
 or-left b e t = ap (λ x. x || b) (sym t ∙ e)
@@ -114,9 +114,9 @@ pub record Passed (nx ny : ℕ) (p q : Particle) : Type 0 where
 pub passed : {A : Type 0} (nx ny : ℕ) (p q : Particle) (k : ℕ) (rest : Answer A) {u : A} → moveCheck nx ny p q k rest ≡ result u → Passed nx ny p q × (rest ≡ result u)
 unfolding moveCheck
 passed nx ny p q k rest e =
-    let first = passes-one (beyond 63 (q .vx) || beyond 63 (q .vy)) 13 k _ e in
-    let second = passes-one ((beyond 2047 (q .bxx) || beyond 2047 (q .bxy)) || (beyond 2047 (q .byx) || beyond 2047 (q .byy))) 14 k _ (first .1) in
-    let third = passes-one (offAxis nx (newCoordinate alongX p (q .vx)) || offAxis ny (newCoordinate alongY p (q .vy))) 15 k rest (second .1) in
+    let first = passes-one (tooFast (q .vx) (q .vy)) 13 k _ e in
+    let second = passes-one (tooSteep (q .bxx) (q .bxy) (q .byx) (q .byy)) 14 k _ (first .1) in
+    let third = passes-one (offGrid nx ny (newCoordinate alongX p (q .vx)) (newCoordinate alongY p (q .vy))) 15 k rest (second .1) in
     let v = or-false (beyond 63 (q .vx)) (beyond 63 (q .vy)) (first .0) in
     let b = or-false (beyond 2047 (q .bxx) || beyond 2047 (q .bxy)) (beyond 2047 (q .byx) || beyond 2047 (q .byy)) (second .0) in
     let bx = or-false (beyond 2047 (q .bxx)) (beyond 2047 (q .bxy)) (b .0) in

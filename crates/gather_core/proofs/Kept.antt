@@ -5,10 +5,10 @@
 use mathlib.Core.Path.{_≡_, refl, sym, ap, ap₂, subst, subst₂, _∙_}
 use mathlib.Core.List.{List, [], _∷_, map}
 use Prim.Native.Nat.{ℕ, suc, _+_, _≤_, _<_}
-use lib.ListN.{length, length-map}
+use lib.ListN.{length-map}
 use lib.IntN.{ℤ}
 use Rattle.arith.specs.Sums.{Each}
-use Rattle.refusal.specs.Refused.{Answer, result}
+use Rattle.refusal.specs.Refused.{result}
 use Rattle.particle.specs.declared.Particle.{Particle}
 use Rattle.apic.specs.Step.{moved}
 use Rattle.apic.specs.Totals.{totalMass}

@@ -3,25 +3,23 @@
 --     x-axis, y-axis      its velocities after the gather
 --     moves               the helper `settle` makes the move
 -- Assumes nothing.
-use mathlib.Core.Path.{_≡_, refl, sym, ap, subst, _∙_}
-use mathlib.Core.List.{List, []}
-use Prim.Native.Nat.{ℕ, _+_, _-_, _*_, _%_, _≤_, _<_}
-use native.Mathlib.Nat.{mul-le-mul-right, mul-comm}
+use mathlib.Core.Path.{_≡_, refl, sym, subst, _∙_}
+use mathlib.Core.List.{List}
+use Prim.Native.Nat.{ℕ, _+_, _-_, _*_, _≤_, _<_}
 use native.Mathlib.Omega.{arith}
 use lib.Dec.{T, leb, leb→le}
 use lib.ListN.{length, getD}
-use lib.IntN.{ℤ, pos, natAbs, _+ℤ_}
+use lib.IntN.{ℤ, pos, _+ℤ_}
 use lib.Signed.{_≤ℤ_}
 use mir.Facts.{and-yes}
 use Rattle.arith.specs.Order.{pos-nonneg}
 use Rattle.arith.specs.Size.{Bound, bound-pos, bound-equal}
 use Rattle.spline.specs.Spline.{nearestNode, onAxis}
-use Rattle.spline.specs.Answers.{table}
 use Rattle.spline.proofs.Axis.{Touched, touched}
 use Rattle.particle.specs.declared.Particle.{Particle}
 use Rattle.apic.specs.Step.{moved}
 use Rattle.apic.specs.Limits.{SizeLimits, ParticleLimits}
-use Rattle.unpacked.specs.Unpacked.{particleAt, particlesOf, UnpackedSet}
+use Rattle.unpacked.specs.Unpacked.{particleAt, particlesOf}
 use Rattle.unpacked.proofs.Laws.{NumbersAt, count, set-numbers-at, limits-at}
 use Rattle.gather_point.specs.declared.AffineVelocity.{AffineVelocity}
 use Rattle.gather_core.specs.declared.Gathered.{Gathered}

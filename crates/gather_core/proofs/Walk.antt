@@ -2,25 +2,24 @@
 --     Walk          k records are moved, and the answer is that of the others
 --     start, turn, stop, end     it begins, goes on, leaves with a refusal, and ends
 -- Assumes nothing.
-use mathlib.Core.Path.{_≡_, refl, sym, ap, subst, _∙_}
+use mathlib.Core.Path.{_≡_, refl, sym, ap, _∙_}
 use mathlib.Core.List.{List, [], _∷_, _++_, map}
 use Prim.Native.Nat.{ℕ, suc, _+_, _*_, _≤_, _<_}
 use native.Mathlib.Numerals.{add-one}
 use native.Mathlib.Omega.{arith}
 use lib.ListN.{length, take, drop, getD, set, length-map}
 use lib.Seq.{take-suc, drop-cons, take-length, drop-length, length-take-le}
-use lib.IntN.{ℤ, pos, natAbs}
-use lib.Signed.{nonNeg, pos-natAbs}
+use lib.IntN.{ℤ, pos}
+use lib.Signed.{pos-natAbs}
 use Rattle.refusal.specs.declared.Refusal.{Refusal}
-use Rattle.refusal.specs.Refused.{Answer, result, refusedBy}
+use Rattle.refusal.specs.Refused.{Answer, result}
 use Rattle.particle.specs.declared.Particle.{Particle}
 use Rattle.apic.specs.Step.{moved, newCoordinate, alongX, alongY}
 use Rattle.unpacked.specs.Unpacked.{unpacked, particleAt, particlesOf, UnpackedSet}
 use Rattle.unpacked.proofs.Laws.{count, particle-of, stored, length-stored, take-stored, all-stored}
 use Rattle.gather_core.specs.declared.Gathered.{Gathered}
 use Rattle.gather_core.specs.declared.Gathered.the-variants.{Done, Refused}
-use Rattle.gather_point.specs.declared.AffineVelocity.{AffineVelocity}
-use Rattle.gather_core.specs.Gather.{gathered, moveCheck, moveChecks, toldGathered, Gathers}
+use Rattle.gather_core.specs.Gather.{gathered, moveChecks, toldGathered, Gathers}
 use Rattle.gather_core.specs.Parts.{fiveStored, particleStored, MovesOne, alongXOf, alongYOf}
 use Rattle.gather_core.proofs.Checks.{follow, check-follow, refused-not, Passed, passed}
 

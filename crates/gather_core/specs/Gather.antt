@@ -23,26 +23,45 @@ use Rattle.gather_core.specs.declared.Gathered.the-variants.{Done, Refus
 abbrev pub gathered : ℕ → ℕ → List ℤ → List ℤ → Particle → Particle
 gathered nx ny ux uy p = moved (nearest halvesAway) axisWeight nx ny (node nx ux) (node nx uy) p
 
--- ---- "for each record 13 new velocity beyond ±63, 14 new B beyond ±2047, 15 new place off the bath"
+-- ---- the refusals of a record: 13 new velocity beyond ±63, 14 new B beyond ±2047, 15 new place off the grid (document 01's bath)
 
 abbrev pub beyond : ℕ → ℤ → Bool
 beyond most z = ltb most (natAbs z)
 
+abbrev pub tooFast : ℤ → ℤ → Bool
+tooFast vx vy = beyond 63 vx || beyond 63 vy
+
+abbrev pub tooSteep : ℤ → ℤ → ℤ → ℤ → Bool
+tooSteep bxx bxy byx byy = (beyond 2047 bxx || beyond 2047 bxy) || (beyond 2047 byx || beyond 2047 byy)
+
 abbrev pub offAxis : ℕ → ℤ → Bool
 offAxis n z = not (nonNeg z && onAxis n (natAbs z))
+
+abbrev pub offGrid : ℕ → ℕ → ℤ → ℤ → Bool
+offGrid nx ny x y = offAxis nx x || offAxis ny y
+
+-- in this order at record k
+abbrev pub firstOf : {A : Type 0} → Bool → Bool → Bool → ℕ → Answer A → Answer A
+firstOf fast steep off k rest = refuseIf fast 13 k (refuseIf steep 14 k (refuseIf off 15 k rest))
 
 -- one record: p before its move, q after it
 unfoldable pub moveCheck : {A : Type 0} → ℕ → ℕ → Particle → Particle → ℕ → Answer A → Answer A
 moveCheck nx ny p q k rest =
-    refuseIf (beyond 63 (q .vx) || beyond 63 (q .vy)) 13 k
-    (refuseIf ((beyond 2047 (q .bxx) || beyond 2047 (q .bxy)) || (beyond 2047 (q .byx) || beyond 2047 (q .byy))) 14 k
-    (refuseIf (offAxis nx (newCoordinate alongX p (q .vx)) || offAxis ny (newCoordinate alongY p (q .vy))) 15 k
-    rest))
+    firstOf
+    (tooFast (q .vx) (q .vy))
+    (tooSteep (q .bxx) (q .bxy) (q .byx) (q .byy))
+    (offGrid nx ny (newCoordinate alongX p (q .vx)) (newCoordinate alongY p (q .vy)))
+    k
+    rest
 
 -- all records, the first of which is record k
 unfoldable pub moveChecks : {A : Type 0} → ℕ → ℕ → (Particle → Particle) → ℕ → List Particle → Answer A → Answer A
 moveChecks nx ny move k [] rest = rest
 moveChecks nx ny move k (p ∷ ps) rest = moveCheck nx ny p (move p) k (moveChecks nx ny move (suc k) ps rest)
+
+-- the answer for a list of particles
+abbrev pub gatherAnswer : ℕ → ℕ → List ℤ → List ℤ → List Particle → Answer (Unit {0})
+gatherAnswer nx ny ux uy ps = moveChecks nx ny (gathered nx ny ux uy) 0 ps (result tt)
 
 -- ---- what `gather_all` asks and promises
 
@@ -64,5 +83,5 @@ pub record Gatherable (nx ny : ℕ) (source : List ℤ) (weights : List (List �
 
 -- where it is refused, the target is the caller's scratch and holds anything of its length
 pub record Gathers (nx ny : ℕ) (source ux uy target : List ℤ) (r : Gathered) : Type 0 where
-  pub answer : toldGathered r ≡ moveChecks nx ny (gathered nx ny ux uy) 0 (particlesOf source) (result tt)
+  pub answer : toldGathered r ≡ gatherAnswer nx ny ux uy (particlesOf source)
   pub particles : toldGathered r ≡ result tt → target ≡ unpacked (map (gathered nx ny ux uy) (particlesOf source))

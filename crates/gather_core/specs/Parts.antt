@@ -1,25 +1,22 @@
 -- What the helpers of the gather answer: a record's checks on plain numbers, and its numbers stored. Assumes nothing.
 use mathlib.Core.Path.{_≡_}
-use mathlib.Core.Bool.{_||_}
 use mathlib.Core.List.{List}
 use Prim.Native.Nat.{ℕ, _+_, _*_, _<_}
 use lib.ListN.{length, set}
 use lib.IntN.{ℤ, pos}
 use Rattle.arith.specs.Size.{Bound}
-use Rattle.refusal.specs.Refused.{Answer, result, refuseIf}
+use Rattle.refusal.specs.Refused.{Answer, result}
 use Rattle.particle.specs.declared.Particle.{Particle}
 use Rattle.apic.specs.Step.{newCoordinate, alongX, alongY}
 use Rattle.apic.specs.Limits.{SizeLimits}
 use Rattle.gather_point.specs.declared.AffineVelocity.{AffineVelocity}
-use Rattle.gather_core.specs.Gather.{beyond, offAxis, moveCheck, toldGathered}
+use Rattle.gather_core.specs.Gather.{tooFast, tooSteep, offGrid, firstOf, moveCheck, toldGathered}
 use Rattle.gather_core.specs.declared.Gathered.{Gathered}
 
 -- what record k is refused for, come to (x, y) with a on the x axis and b on the y axis
 unfoldable pub checkOf : ℕ → ℕ → ℕ → ℤ → ℤ → AffineVelocity → AffineVelocity → Answer (Unit {0})
 checkOf k nx ny x y a b =
-    refuseIf (beyond 63 (a .v) || beyond 63 (b .v)) 13 k
-    (refuseIf ((beyond 2047 (a .bx) || beyond 2047 (a .by)) || (beyond 2047 (b .bx) || beyond 2047 (b .by))) 14 k
-    (refuseIf (offAxis nx x || offAxis ny y) 15 k (result tt)))
+    firstOf (tooFast (a .v) (b .v)) (tooSteep (a .bx) (a .by) (b .bx) (b .by)) (offGrid nx ny x y) k (result tt)
 
 unfoldable pub fiveStored : List ℤ → ℕ → ℤ → ℤ → ℤ → ℤ → ℤ → List ℤ
 fiveStored l at a b c d e = set (set (set (set (set l at a) (at + 1) b) (at + 2) c) (at + 3) d) (at + 4) e

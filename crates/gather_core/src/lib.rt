@@ -6,10 +6,10 @@ ghost use lib.ListN.{length, getD, set};
 ghost use lib.IntN.{pos, natAbs, _+ℤ_};
 ghost use lib.Signed.{_≤ℤ_};
 ghost use Rattle.arith.specs.Size.{Bound};
-ghost use Rattle.refusal.specs.Refused.{refuseIf, result};
+ghost use Rattle.refusal.specs.Refused.{result};
 ghost use Rattle.apic.specs.Limits.{SizeLimits};
 ghost use Rattle.unpacked.specs.Unpacked.{particlesOf, particleAt};
-ghost use Rattle.gather_core.specs.Gather.{beyond, offAxis, toldGathered, gathered, Gatherable, Gathers};
+ghost use Rattle.gather_core.specs.Gather.{beyond, offAxis, firstOf, toldGathered, gathered, Gatherable, Gathers};
 ghost use Rattle.gather_core.specs.Parts.{checkOf, fiveStored, particleStored, Settling, Settled, MovesOne};
 use gather_point::AffineVelocity;
 use refusal::Refusal;
@@ -77,7 +77,7 @@ fn last_place(n: usize) -> i64
 
 // What record k is refused for: the first of the three that holds.
 fn answer(k: usize, fast: bool, steep: bool, off: bool) -> Gathered
-    ensures { λ r. ⌜ toldGathered r ≡ refuseIf fast 13 k (refuseIf steep 14 k (refuseIf off 15 k (result tt))) ⌝ }
+    ensures { λ r. ⌜ toldGathered r ≡ firstOf fast steep off k (result tt) ⌝ }
 {
     if fast {
         return Gathered::Refused(Refusal::NewVelocity(k));

@@ -1,12 +1,12 @@
 -- A signed number that is read back from its bits, and the sizes of the gather's sums.
---     read, read-as, read-bound, read-result     what is read back is the number, within its bound
---     weighed-small, row-small, block-small   the sizes of weighed sums
+--     fitting, read, read-as, read-bound, read-result     what is read back is the number, within its bound
+--     Read                  the fields of an affine velocity, read back
+--     row-small, block-small     the sizes of weighed sums
 -- Assumes nothing.
-use mathlib.Core.Path.{_≡_, sym, ap, subst, _∙_}
-use Prim.Native.Nat.{ℕ, _+_, _≤_, _<_, _^_}
-use native.Mathlib.Nat.{le-trans}
-use lib.Dec.{T, ltb, ltb→lt, lit≤}
-use lib.IntN.{ℤ, pos, natAbs}
+use mathlib.Core.Path.{_≡_, sym, _∙_}
+use Prim.Native.Nat.{ℕ, _<_, _^_}
+use lib.Dec.{T, ltb, ltb→lt}
+use lib.IntN.{ℤ}
 use lib.Signed.{mag}
 use mir.Syntax.{w64}
 use mir.Val.{SFits, toZ, ofZ, hbits}

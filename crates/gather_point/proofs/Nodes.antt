@@ -6,12 +6,12 @@
 -- Assumes nothing.
 use mathlib.Core.Path.{_≡_, refl, sym, ap, ap₂, subst, _∙_}
 use mathlib.Core.List.{List, [], _∷_}
-use Prim.Native.Nat.{ℕ, _+_, _-_, _*_, _/_, _%_, _^_, _<_, _≤_}
+use Prim.Native.Nat.{ℕ, _+_, _-_, _*_, _%_, _^_, _<_, _≤_}
 use native.Mathlib.Nat.{suc-mul, mul-comm, mul-le-mul-right}
 use native.Mathlib.Numerals.{add-one}
 use native.Mathlib.Omega.{arith}
-use lib.ListN.{getD, length}
-use lib.IntN.{ℤ, pos, negsuc, natAbs, _+ℤ_, _-ℤ_, _*ℤ_, zero-*ℤ, *ℤ-zero}
+use lib.ListN.{getD}
+use lib.IntN.{ℤ, pos, negsuc, _+ℤ_, _-ℤ_, _*ℤ_, zero-*ℤ, *ℤ-zero}
 use Rattle.arith.specs.Order.{linear, reading, nothing}
 use Rattle.arith.specs.Solver.{ring, quote}
 use Rattle.arith.specs.Sums.{sumOver, upTo, sum-cong}
@@ -22,7 +22,7 @@ use Rattle.spline.specs.declared.AxisWeights.{AxisWeights}
 use Rattle.spline.proofs.Table.{RowFacts, table-row}
 use Rattle.spline.proofs.Axis.{Touched, axis-sum, offset-facts}
 use Rattle.particle.specs.declared.Particle.{Particle}
-use Rattle.apic.specs.Step.{overNodes, node, apart, gatheredVelocity, gatheredAffine, alongX, alongY}
+use Rattle.apic.specs.Step.{overNodes, node, gatheredVelocity, gatheredAffine, alongX, alongY}
 use Rattle.gather_point.specs.declared.Shares.{Shares}
 use Rattle.gather_point.specs.declared.Block.{Block}
 use Rattle.gather_point.specs.declared.AffineVelocity.{AffineVelocity}

@@ -1,5 +1,5 @@
 -- What the helpers of the gather answer: sums over the nine nodes around a particle, taken row by row. That these are the
--- sums over all nodes is proved (proofs/Nodes.antt, axis-at). Assumes nothing.
+-- sums over all nodes is proved (proofs/Nodes.antt, axis-at), so nobody has to believe these. Assumes nothing.
 use mathlib.Core.Path.{_≡_}
 use mathlib.Core.List.{List, []}
 use Prim.Native.Nat.{ℕ, _+_, _-_, _*_, _%_, _^_, _≤_, _<_}

@@ -8,8 +8,8 @@ use lib.Dec.{T}
 use lib.IntN.{ℤ, pos, negsuc, negℤ, natAbs, _-ℤ_, +ℤ-idl}
 use lib.Signed.{ltZ, nonNeg}
 use mir.Syntax.{w64}
-use mir.Val.{SFits, toZ, ofZ}
-use mir.Facts.{toZ-ofZ, toZ-pos}
+use mir.Val.{Fits, SFits, toZ, ofZ}
+use mir.Facts.{toZ-ofZ, toZ-pos, fits-natAbs}
 use borrow.Author.Tests.{le-ltb}
 use Rattle.arith.specs.Order.{linear, reading, nothing}
 use Rattle.arith.specs.Size.{natAbs-neg}
@@ -27,7 +27,7 @@ module _ (m : ℕ) (positive : 0 < m) where
   pub rounds-negative : (a : ℕ) → nearest halvesAway (negsuc a) (4 * m) ≡ negℤ (pos ((suc a + 2 * m) / (4 * m)))
   rounds-negative a = rw (twice m) (nearest-half-neg (suc a) (2 * m) (omega arith))
 
-pub nonneg : (z : ℤ) → ltZ z (pos 0) ≡ false → T (nonNeg z)
+nonneg : (z : ℤ) → ltZ z (pos 0) ≡ false → T (nonNeg z)
 nonneg (pos a) e = tt
 nonneg (negsuc a) e = absurd (true≢false e)
 
@@ -38,23 +38,39 @@ pub record Negative (z : ℤ) : Type 0 where
   pub is : z ≡ negsuc less
   pub small : less < 2 ^ 63
 
-pub negative : (z : ℤ) → SFits w64 z → ltZ z (pos 0) ≡ true → Negative z
+negative : (z : ℤ) → SFits w64 z → ltZ z (pos 0) ≡ true → Negative z
 negative (pos a) h e = absurd (true≢false (sym e ∙ le-ltb a 0 (omega arith)))
 negative (negsuc a) h e = record { less = a; is = refl; small = h .sfits }
 
--- −1 − z
-module _ (z : ℤ) (h : SFits w64 z) (n : Negative z) where
-  less-is : negsuc 0 -ℤ toZ w64 (ofZ w64 z) ≡ pos (n .less)
-  less-is = ap (λ y. negsuc 0 -ℤ y) (toZ-ofZ h ∙ n .is) ∙ minus-one (n .less)
+-- −1 − z, where the machine's test says that z is below 0
+module _ (z : ℤ) (h : SFits w64 z) (test : ltZ (toZ w64 (ofZ w64 z)) (pos 0) ≡ true) where
+  pub sign : Negative z
+  sign = negative z h (subst (λ y. ltZ y (pos 0) ≡ true) (toZ-ofZ h) test)
+
+  less-is : negsuc 0 -ℤ toZ w64 (ofZ w64 z) ≡ pos (sign .less)
+  less-is = ap (λ y. negsuc 0 -ℤ y) (toZ-ofZ h ∙ sign .is) ∙ minus-one (sign .less)
     where
       minus-one : (a : ℕ) → negsuc 0 -ℤ negsuc a ≡ pos a
       minus-one a = linear [] nothing (search reading depth 30) (omega arith)
 
   pub less-fits : SFits w64 (negsuc 0 -ℤ toZ w64 (ofZ w64 z))
-  less-fits = subst (SFits w64) (sym less-is) (record { sfits = n .small })
+  less-fits = subst (SFits w64) (sym less-is) (record { sfits = sign .small })
 
-  pub less-held : toZ w64 (ofZ w64 (negsuc 0 -ℤ toZ w64 (ofZ w64 z))) ≡ pos (n .less)
+  less-held : toZ w64 (ofZ w64 (negsuc 0 -ℤ toZ w64 (ofZ w64 z))) ≡ pos (sign .less)
   less-held = toZ-ofZ less-fits ∙ less-is
+
+  pub less-size : natAbs (toZ w64 (ofZ w64 (negsuc 0 -ℤ toZ w64 (ofZ w64 z)))) ≡ sign .less
+  less-size = ap natAbs less-held
+
+  pub less-small : natAbs (toZ w64 (ofZ w64 (negsuc 0 -ℤ toZ w64 (ofZ w64 z)))) < 2 ^ 63
+  less-small = subst (λ n. n < 2 ^ 63) (sym less-size) (sign .small)
+
+  pub less-cast : T (nonNeg (toZ w64 (ofZ w64 (negsuc 0 -ℤ toZ w64 (ofZ w64 z))))) × Fits w64 (natAbs (toZ w64 (ofZ w64 (negsuc 0 -ℤ toZ w64 (ofZ w64 z)))))
+  less-cast = (subst (λ y. T (nonNeg y)) (sym less-held) tt, record { fits = omega (arith, less-small) })
+
+-- a number that is not below 0, cast
+pub plain-cast : (z : ℤ) → SFits w64 z → ltZ (toZ w64 (ofZ w64 z)) (pos 0) ≡ false → T (nonNeg (toZ w64 (ofZ w64 z))) × Fits w64 (natAbs (toZ w64 (ofZ w64 z)))
+plain-cast z h test = rw (toZ-ofZ h) (nonneg z (rw (toZ-ofZ h) at test), fits-natAbs tt h)
 
 -- ---- a size of at most 2^62, negated
 

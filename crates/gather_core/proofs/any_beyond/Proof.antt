@@ -1,5 +1,5 @@
 -- `gather_core::any_beyond` meets its contract. Assumes nothing.
-use mathlib.Core.Path.{_≡_, _∙_}
+use mathlib.Core.Path.{_∙_}
 use mathlib.Core.Bool.{_||_}
 use mir.Facts.{toZ-ofZ}
 use borrow.Author.Needs.{needs}

@@ -1,12 +1,10 @@
 -- `gather_core::check` meets its contract. Assumes nothing.
-use mathlib.Core.Path.{_≡_, _∙_}
-use mathlib.Core.Bool.{_||_}
-use lib.IntN.{ℤ}
+use mathlib.Core.Path.{_∙_}
 use mir.Facts.{toZ-ofZ}
 use borrow.Author.Needs.{needs}
-use Rattle.refusal.specs.Refused.{refuseIf, result}
+use Rattle.refusal.specs.Refused.{result}
 use Rattle.gather_point.proofs.Machine.{Read}
-use Rattle.gather_core.specs.Gather.{beyond, offAxis}
+use Rattle.gather_core.specs.Gather.{tooFast, tooSteep, offGrid, firstOf}
 use Rattle.gather_core.specs.Parts.{checkOf}
 use Rattle.gather_core.proofs.check.Statement.{statement}
 use Rattle.gather_core.proofs.check.Tie as tie
@@ -42,10 +40,13 @@ returns c =
     let b = y-read y in
     let k = s .args .k in
     c .answer .ensures
-    ∙ (λ i. refuseIf (v .either-beyond .ensures i) 13 k (refuseIf (f .any-beyond .ensures i) 14 k (refuseIf (o .is-off-grid .ensures i) 15 k (result tt))))
-    ∙ (λ i. refuseIf (beyond 63 (a .v i) || beyond 63 (b .v i)) 13 k
-    (refuseIf ((beyond 2047 (a .bx i) || beyond 2047 (a .by i)) || (beyond 2047 (b .bx i) || beyond 2047 (b .by i))) 14 k
-    (refuseIf (offAxis (s .args .nx) (toZ-ofZ (s .fits .x) i) || offAxis (s .args .ny) (toZ-ofZ (s .fits .y) i)) 15 k (result tt))))
+    ∙ (λ i. firstOf (v .either-beyond .ensures i) (f .any-beyond .ensures i) (o .is-off-grid .ensures i) k (result tt))
+    ∙ (λ i. firstOf
+    (tooFast (a .v i) (b .v i))
+    (tooSteep (a .bx i) (a .by i) (b .bx i) (b .by i))
+    (offGrid (s .args .nx) (s .args .ny) (toZ-ofZ (s .fits .x) i) (toZ-ofZ (s .fits .y) i))
+    k
+    (result tt))
 
 pub check-spec : {M : Type 1} → statement M
 check-spec =

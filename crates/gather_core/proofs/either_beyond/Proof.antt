@@ -1,5 +1,5 @@
 -- `gather_core::either_beyond` meets its contract. Assumes nothing.
-use mathlib.Core.Path.{_≡_, ap, _∙_}
+use mathlib.Core.Path.{ap, _∙_}
 use mir.Facts.{toZ-ofZ}
 use borrow.Author.Needs.{needs}
 use Rattle.gather_core.specs.Gather.{beyond}

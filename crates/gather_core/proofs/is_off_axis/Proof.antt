@@ -1,6 +1,5 @@
 -- `gather_core::is_off_axis` meets its contract. Assumes nothing.
-use mathlib.Core.Path.{_≡_, sym, ap, ap₂, _∙_}
-use Prim.Native.Nat.{_-_, _*_}
+use mathlib.Core.Path.{sym, ap, ap₂, _∙_}
 use lib.IntN.{pos}
 use lib.Signed.{ltZ}
 use mir.Facts.{toZ-ofZ}

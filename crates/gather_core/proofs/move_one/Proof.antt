@@ -1,17 +1,12 @@
 -- `gather_core::move_one` meets its contract: record k stands in the array, and its nine nodes on the grid. Assumes nothing.
-use mathlib.Core.Path.{_≡_, sym, subst₂, _∙_}
-use Prim.Native.Nat.{_+_, _*_, _≤_, _<_}
+use mathlib.Core.Path.{sym, subst₂, _∙_}
 use native.Mathlib.Omega.{arith}
-use lib.Dec.{lit<}
-use lib.IntN.{ℤ, pos}
 use borrow.Author.Needs.{needs}
-use Rattle.arith.specs.Size.{Bound, bound-pos, below}
+use Rattle.arith.specs.Size.{bound-pos, below}
 use Rattle.unpacked.specs.Unpacked.{particleAt}
-use Rattle.gather_point.specs.declared.AffineVelocity.{AffineVelocity}
 use Rattle.gather_point.specs.Point.{Around, axisAt}
 use Rattle.gather_point.proofs.Nodes.{axis-at}
 use Rattle.gather_core.specs.Gather.{gathered}
-use Rattle.gather_core.specs.Parts.{alongXOf, alongYOf}
 use Rattle.gather_point.proofs.Machine.{read, read-as, read-bound}
 use Rattle.gather_core.proofs.Record.{Placed, placed, moves, x-axis, y-axis}
 use Rattle.gather_core.proofs.move_one.Statement.{statement}

@@ -1,10 +1,10 @@
 -- `gather_core::settle` meets its contract. Assumes nothing.
-use mathlib.Core.Path.{_≡_, _∙_}
+use mathlib.Core.Path.{_∙_}
 use Prim.Native.Nat.{_*_}
-use lib.IntN.{ℤ, _+ℤ_}
+use lib.IntN.{_+ℤ_}
 use mir.Facts.{toZ-ofZ}
 use borrow.Author.Needs.{needs}
-use Rattle.gather_core.specs.Parts.{particleStored, checkOf, Settled}
+use Rattle.gather_core.specs.Parts.{particleStored, checkOf}
 use Rattle.gather_point.proofs.Machine.{read, read-result}
 use Rattle.gather_core.proofs.settle.Statement.{statement}
 use Rattle.gather_core.proofs.settle.Tie as tie

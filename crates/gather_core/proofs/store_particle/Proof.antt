@@ -1,12 +1,8 @@
 -- `gather_core::store_particle` meets its contract. Assumes nothing.
-use mathlib.Core.Path.{_≡_, _∙_}
+use mathlib.Core.Path.{_∙_}
 use Prim.Native.Nat.{_+_}
-use lib.IntN.{ℤ}
-use mir.Syntax.{w64}
-use mir.Val.{toZ, ofZ}
 use mir.Facts.{toZ-ofZ}
 use borrow.Author.Needs.{needs}
-use Rattle.gather_point.specs.declared.AffineVelocity.{AffineVelocity}
 use Rattle.gather_core.specs.Parts.{fiveStored, particleStored}
 use Rattle.gather_point.proofs.Machine.{Read}
 use Rattle.gather_core.proofs.store_particle.Statement.{statement}

@@ -2,14 +2,14 @@
 use mathlib.Core.Path.{_≡_, sym, ap, _∙_}
 use Prim.Native.Nat.{_^_, _<_}
 use lib.Dec.{lit≤, lit<}
-use lib.IntN.{ℤ, pos}
+use lib.IntN.{ℤ}
 use lib.Signed.{mag}
 use mir.Syntax.{w64}
 use mir.Val.{toZ, ofZ, hbits}
 use borrow.Author.Needs.{needs}
 use Rattle.arith.specs.Size.{Bound, bound-widen, bound-equal}
 use Rattle.arith.specs.Rounding.{nearest, halvesAway, nearest-bound}
-use Rattle.gather_point.specs.Point.{velocityOf, momentOf, SmallBlock}
+use Rattle.gather_point.specs.Point.{velocityOf, momentOf}
 use Rattle.gather_point.proofs.Machine.{read, read-bound, read-result}
 use Rattle.gather_point.proofs.affine_velocity.Statement.{statement}
 use Rattle.gather_point.proofs.affine_velocity.Tie as tie

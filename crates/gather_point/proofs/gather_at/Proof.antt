@@ -1,10 +1,7 @@
 -- `gather_point::gather_at` meets its contract. Assumes nothing.
-use mathlib.Core.Path.{_≡_, _∙_}
-use mathlib.Core.List.{List}
-use Prim.Native.Nat.{ℕ}
-use lib.IntN.{ℤ}
+use mathlib.Core.Path.{_∙_}
 use borrow.Author.Needs.{needs}
-use Rattle.gather_point.specs.Point.{velocityOf, nineNodes, axisAt, MotionAt}
+use Rattle.gather_point.specs.Point.{velocityOf, nineNodes, axisAt}
 use Rattle.gather_point.proofs.Machine.{read-result}
 use Rattle.gather_point.proofs.gather_at.Statement.{statement}
 use Rattle.gather_point.proofs.gather_at.Tie as tie

@@ -1,5 +1,5 @@
 -- `gather_point::gather_axis` meets its contract. Assumes nothing.
-use mathlib.Core.Path.{_≡_, _∙_}
+use mathlib.Core.Path.{_∙_}
 use mir.Facts.{toZ-ofZ}
 use borrow.Author.Needs.{needs}
 use Rattle.gather_point.specs.Point.{velocityOf, nineNodes, blockOf}

@@ -4,7 +4,6 @@ use mir.Syntax.{w64}
 use mir.Val.{SFits}
 use borrow.Author.Needs.{needs}
 use Rattle.arith.specs.Size.{Bound, fits, bounded, sizes}
-use Rattle.gather_point.specs.Point.{momentOf}
 use Rattle.gather_point.proofs.moment.Statement.{statement}
 use Rattle.gather_point.proofs.moment.Tie as tie
 

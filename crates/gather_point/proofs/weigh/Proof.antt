@@ -3,7 +3,7 @@ use lib.IntN.{ℤ, _+ℤ_, _-ℤ_, _*ℤ_}
 use mir.Syntax.{w64}
 use mir.Val.{SFits}
 use borrow.Author.Needs.{needs}
-use Rattle.arith.specs.Size.{Bound, fits, sizes}
+use Rattle.arith.specs.Size.{fits, sizes}
 use Rattle.gather_point.specs.Point.{Weighable}
 use Rattle.gather_point.proofs.weigh.Statement.{statement}
 use Rattle.gather_point.proofs.weigh.Tie as tie

@@ -1,49 +1,33 @@
 -- `update::node::rounded` meets its contract. Assumes nothing.
-use mathlib.Core.Path.{_≡_, sym, ap, _∙_, subst}
+use mathlib.Core.Path.{_≡_, sym, ap, _∙_}
 use mathlib.Core.Bool.{true}
-use Prim.Native.Nat.{ℕ, _+_, _*_, _/_, _<_, _^_}
+use Prim.Native.Nat.{ℕ, _+_, _*_, _/_, _<_}
 use native.Mathlib.Numerals.{add-one}
 use native.Mathlib.Omega.{arith}
-use lib.Dec.{T}
 use lib.IntN.{ℤ, pos, negsuc, negℤ, natAbs, _-ℤ_}
-use lib.Signed.{ltZ, nonNeg, natAbs-le}
+use lib.Signed.{ltZ, natAbs-le}
 use mir.Syntax.{w64}
-use mir.Val.{Fits, SFits, toZ, ofZ}
-use mir.Facts.{toZ-ofZ, fits-natAbs}
+use mir.Val.{SFits, toZ, ofZ}
+use mir.Facts.{toZ-ofZ}
 use borrow.Author.Needs.{needs}
 use Rattle.arith.specs.Rounding.{nearest, halvesAway}
-use Rattle.update.proofs.Rounded.{rounds, rounds-negative, nonneg, Negative, negative, less-fits, less-held, held, negated-fits, negated, negated-size}
+use Rattle.update.proofs.Rounded.{rounds, rounds-negative, sign, less-fits, less-size, less-small, less-cast, plain-cast, held, negated-fits, negated, negated-size}
 use Rattle.update.proofs.node.rounded.Statement.{statement}
 use Rattle.update.proofs.node.rounded.Tie as tie
 
 -- below 0
 module _ (z : ℤ) (fits : SFits w64 z) (test : ltZ (toZ w64 (ofZ w64 z)) (pos 0) ≡ true) where
-  sign : Negative z
-  sign = negative z fits (subst (λ y. ltZ y (pos 0) ≡ true) (toZ-ofZ fits) test)
-
-  abbrev less : ℕ
-  less = natAbs (toZ w64 (ofZ w64 (negsuc 0 -ℤ toZ w64 (ofZ w64 z))))
-
-  less-is : less ≡ sign .less
-  less-is = ap natAbs (less-held z fits sign)
-
-  less-small : less < 2 ^ 63
-  less-small = subst (λ n. n < 2 ^ 63) (sym less-is) (sign .small)
-
-  cast-fits : T (nonNeg (toZ w64 (ofZ w64 (negsuc 0 -ℤ toZ w64 (ofZ w64 z))))) × Fits w64 less
-  cast-fits = (subst (λ y. T (nonNeg y)) (sym (less-held z fits sign)) tt, record { fits = omega (arith, less-small) })
-
-  answer : (m r : ℕ) → 0 < m → r ≡ (less + 1 + 2 * m) / (4 * m) → negℤ (pos r) ≡ nearest halvesAway z (4 * m)
+  answer : (m r : ℕ) → 0 < m → r ≡ (natAbs (toZ w64 (ofZ w64 (negsuc 0 -ℤ toZ w64 (ofZ w64 z)))) + 1 + 2 * m) / (4 * m) → negℤ (pos r) ≡ nearest halvesAway z (4 * m)
   answer m r p e =
-      ap (λ n. negℤ (pos n)) (e ∙ ap (λ n. (n + 2 * m) / (4 * m)) (ap (λ n. n + 1) less-is ∙ add-one (sign .less)))
-      ∙ sym (rounds-negative m p (sign .less))
-      ∙ ap (λ y. nearest halvesAway y (4 * m)) (sym (sign .is))
+      ap (λ n. negℤ (pos n)) (e ∙ ap (λ n. (n + 2 * m) / (4 * m)) (ap (λ n. n + 1) (less-size z fits test) ∙ add-one (sign z fits test .less)))
+      ∙ sym (rounds-negative m p (sign z fits test .less))
+      ∙ ap (λ y. nearest halvesAway y (4 * m)) (sym (sign z fits test .is))
 
 sub-rounded-size : tie.Need-sub-rounded-size
-sub-rounded-size c = less-fits _ (c .before .fits .momentum) (sign _ (c .before .fits .momentum) (c .if1 .taken))
+sub-rounded-size c = less-fits _ (c .before .fits .momentum) (c .if1 .taken)
 
 cast-rounded-size : tie.Need-cast-rounded-size
-cast-rounded-size c = cast-fits _ (c .before .fits .momentum) (c .if1 .taken)
+cast-rounded-size c = less-cast _ (c .before .fits .momentum) (c .if1 .taken)
 
 add-rounded-size : tie.Need-add-rounded-size
 add-rounded-size c = record { fits = omega (arith, less-small _ (c .before .fits .momentum) (c .if1 .taken)) }
@@ -58,10 +42,7 @@ sub-result : tie.Need-sub-result
 sub-result c = negated-fits (c .rounded-size .result) (c .rounded-size .ensures .1)
 
 cast-rounded-size-2 : tie.Need-cast-rounded-size-2
-cast-rounded-size-2 c =
-    let z = c .before .args .momentum in
-    let f = c .before .fits .momentum in
-    rw (toZ-ofZ f) (nonneg z (rw (toZ-ofZ f) at (c .if1 .left)), fits-natAbs tt f)
+cast-rounded-size-2 c = plain-cast _ (c .before .fits .momentum) (c .if1 .left)
 
 rounded-size-requires-2 : tie.Need-rounded-size-requires-2
 rounded-size-requires-2 c κs =
