@@ -13,7 +13,6 @@ use mathlib.Core.Path.{_≡_, refl, sym, ap, _∙_, subst}
 use mathlib.Core.Bool.{true, not}
 use mathlib.Core.List.{List, [], _∷_, _++_}
 use Prim.Native.Nat.{ℕ, zero, suc, _+_, _*_}
-use native.Mathlib.Omega.{arith}
 use lib.Dec.{ltb}
 use lib.ListN.{length, replicate, length-append, length-replicate}
 use borrow.Author.Tests.{not-false}
@@ -27,7 +26,7 @@ use Rattle.particles.proofs.Accepted.{accepted-limits}
 use Rattle.update.specs.Checks.{lengthsAre, bothWithin}
 use Rattle.simulation.specs.declared.Settings.{Settings}
 use Rattle.simulation.specs.Step.{Grids, After, either, checkEntry, setIn, stepped, stepOf, nodesOf, stepEntry, stepFrom, stepAfter}
-use Rattle.simulation.specs.Run.{Completion, afterOne, runFrom, runEntry, runAfter}
+use Rattle.simulation.specs.Run.{Completion, runFrom, runEntry, runAfter}
 use Rattle.simulation.specs.Demand3.{Accepted, Call, step, run, settingsOf, leaves, completes, leavesAll, completesAll, settingsAll, arrives}
 use Rattle.simulation.proofs.Records.{set-particles, records-particles, records-accepted}
 use Rattle.simulation.proofs.Steps.{step-result, completed, limits-after}
@@ -106,22 +105,19 @@ step-works {s} {records} {ps} {qs} ready e =
 abbrev RunWorks : Settings → List ℕ → After Completion → Type 0
 RunWorks s records r = Works (replicate (r .answer .completed) s) records (r .records)
 
-run-on : (s : Settings) (n : ℕ) (records : List ℕ) (ps : List Particle) → Accepted records → Ready s records ps → ((qs : List Particle) → Accepted (recordsOf qs) → Ready s (recordsOf qs) qs → RunWorks s (recordsOf qs) (runFrom s n (recordsOf qs) qs (nodesOf s ps))) → (a : Answer (List Particle)) → stepOf s ps ≡ a → RunWorks s records (either a (λ qs. afterOne (runFrom s n (recordsOf qs) qs (nodesOf s ps))) (λ k p. record { answer = record { completed = 0; stop = refused k p }; records = records; grids = nodesOf s ps }))
-run-on s n records ps h ready further (result qs) e =
-    let w = step-works ready e in
-    works-append (w .0) (further qs (w .0 .accepted) (w .1))
-run-on s n records ps h ready further (refused k p) e = works-none h
-
 pub run-works : (s : Settings) (n : ℕ) (records : List ℕ) (ps : List Particle) (grids : Grids) → Accepted records → Ready s records ps → RunWorks s records (runFrom s n records ps grids)
 unfolding runFrom
 run-works s zero records ps grids h ready = works-none h
 run-works s (suc n) records ps grids h ready =
-    run-on s n records ps h ready (λ qs. run-works s n (recordsOf qs) qs (nodesOf s ps)) (stepOf s ps) refl
+    go (λ qs. run-works s n (recordsOf qs) qs (nodesOf s ps)) (stepOf s ps) refl
+  where
+    go : ((qs : List Particle) → Accepted (recordsOf qs) → Ready s (recordsOf qs) qs → RunWorks s (recordsOf qs) (runFrom s n (recordsOf qs) qs (nodesOf s ps))) → (a : Answer (List Particle)) → stepOf s ps ≡ a → RunWorks s records (runFrom s (suc n) records ps grids)
+    go further (result qs) e =
+        let w = step-works ready e in
+        rw e (works-append (w .0) (further qs (w .0 .accepted) (w .1)))
+    go further (refused k p) e = rw e (works-none h)
 
 -- ---- calls
-
-abbrev CallWorks : Call → List ℕ → Type 0
-CallWorks c records = Works (replicate (completes c records) (settingsOf c)) records (leaves c records)
 
 abbrev StepWorks : Settings → List ℕ → After (Answer Unit) → Type 0
 StepWorks s records r = Works (replicate (either (r .answer) (λ _. 1) (λ n k. 0)) s) records (r .records)
@@ -130,22 +126,22 @@ one-step : (s : Settings) (records : List ℕ) (ps : List Particle) → Accepted
 unfolding stepFrom
 one-step s records ps h ready = go (stepOf s ps) refl
   where
-    go : (a : Answer (List Particle)) → stepOf s ps ≡ a → StepWorks s records (either a (λ qs. record { answer = result tt; records = recordsOf qs; grids = nodesOf s ps }) (λ n k. record { answer = refused n k; records = records; grids = nodesOf s ps }))
-    go (result qs) e = step-works ready e .0
-    go (refused n k) e = works-none h
+    go : (a : Answer (List Particle)) → stepOf s ps ≡ a → StepWorks s records (stepFrom s records ps)
+    go (result qs) e = rw e (step-works ready e .0)
+    go (refused n k) e = rw e (works-none h)
 
-pub call-works : (c : Call) (records : List ℕ) → Accepted records → CallWorks c records
+pub call-works : (c : Call) (records : List ℕ) → Accepted records → Works (replicate (completes c records) (settingsOf c)) records (leaves c records)
 unfolding stepAfter runAfter
 call-works (step s grids) records h = go (stepEntry s records grids) refl
   where
-    go : (a : Answer (List Particle)) → stepEntry s records grids ≡ a → StepWorks s records (either a (λ ps. stepFrom s records ps) (λ n k. record { answer = refused n k; records = records; grids = grids }))
-    go (result ps) e = one-step s records ps h (ready-step s records grids e)
-    go (refused n k) e = works-none h
+    go : (a : Answer (List Particle)) → stepEntry s records grids ≡ a → StepWorks s records (stepAfter s records grids)
+    go (result ps) e = rw e (one-step s records ps h (ready-step s records grids e))
+    go (refused n k) e = rw e (works-none h)
 call-works (run s steps grids) records h = go (runEntry s steps records grids) refl
   where
-    go : (a : Answer (List Particle)) → runEntry s steps records grids ≡ a → RunWorks s records (either a (λ ps. runFrom s steps records ps grids) (λ n k. record { answer = record { completed = 0; stop = refused n k }; records = records; grids = grids }))
-    go (result ps) e = run-works s steps records ps grids h (ready-run s records steps grids e)
-    go (refused n k) e = works-none h
+    go : (a : Answer (List Particle)) → runEntry s steps records grids ≡ a → RunWorks s records (runAfter s steps records grids)
+    go (result ps) e = rw e (run-works s steps records ps grids h (ready-run s records steps grids e))
+    go (refused n k) e = rw e (works-none h)
 
 pub calls-work : (calls : List Call) (start : List ℕ) → Accepted start → Works (settingsAll calls start) start (leavesAll calls start)
 unfolding settingsAll leavesAll

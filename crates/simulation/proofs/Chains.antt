@@ -2,12 +2,12 @@
 --     Chain                each of the steps with these settings, worked from ps, is completed
 --     chain-append, arrives-append
 --                          two chains in a row
---     chain-limits         the allowances of the steps add up
+--     chain-keeps          the allowances of the steps add up
 --     chain-each, chain-unrefused, chain-number
 --                          what holds of each step, and their number
 -- Assumes nothing.
-use mathlib.Core.Path.{_≡_, refl, sym, ap, _∙_, subst}
-use mathlib.Core.List.{List, [], _∷_, _++_, map}
+use mathlib.Core.Path.{_≡_, refl, ap, _∙_, subst}
+use mathlib.Core.List.{List, [], _∷_, _++_}
 use Prim.Native.Nat.{ℕ, suc}
 use native.Mathlib.Omega.{arith}
 use lib.ListN.{length}
@@ -16,11 +16,10 @@ use Rattle.arith.specs.Order.{Within, linear, reading, _&_, nothing}
 use Rattle.arith.specs.Sums.{Each, sumOver}
 use Rattle.refusal.specs.Refused.{result}
 use Rattle.particle.specs.declared.Particle.{Particle}
-use Rattle.apic.specs.Step.{Axis}
 use Rattle.apic.specs.Totals.{totalMass, momentum, angularMomentum, torque, firstMoment}
 use Rattle.simulation.specs.declared.Settings.{Settings}
 use Rattle.simulation.specs.Step.{gravity, stepped, stepOf}
-use Rattle.simulation.specs.Demand3.{CompletedStep, worked, arrives, shareOf, torqueOf, momentOf, Keeps}
+use Rattle.simulation.specs.Demand3.{worked, arrives, shareOf, torqueOf, momentOf, Keeps}
 use Rattle.simulation.proofs.Steps.{Completed, kept-identifiers, kept-masses, kept-mass, step-linear, step-angular}
 
 abbrev pub Chain : List Settings → List Particle → Type 0

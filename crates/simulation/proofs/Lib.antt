@@ -5,3 +5,4 @@ pub mod Refusals
 pub mod Chains
 pub mod Calls
 pub mod Conserved
+mod Example

@@ -13,9 +13,9 @@ use Prim.Native.Nat.{ℕ, zero, suc, _+_, _*_, _/_, _%_, _^_, _≤_, _<_}
 use native.Mathlib.Nat.{mod-lt, div-lt-iff-lt-mul, mul-comm}
 use native.Mathlib.Omega.{arith}
 use lib.ListN.{length, getD, replicate}
-use lib.IntN.{ℤ, pos, natAbs}
+use lib.IntN.{pos, natAbs}
 use lib.Signed.{_≤ℤ_}
-use Rattle.arith.specs.Order.{Within, nonneg-pos, pos-cancel}
+use Rattle.arith.specs.Order.{nonneg-pos, pos-cancel}
 use Rattle.arith.specs.Size.{bound-within, within-bound}
 use Rattle.arith.specs.Sums.{Each, upTo, each-upTo}
 use Rattle.refusal.specs.Refused.{Answer, result, refused, refuseIf}
@@ -34,8 +34,8 @@ use Rattle.update.specs.Checks.{done}
 use Rattle.update.specs.Update.{velocityOf, NodeLimits, GridLimits, updateAnswer}
 use Rattle.update.proofs.Answers.{update-accepts}
 use Rattle.simulation.specs.declared.Settings.{Settings}
-use Rattle.simulation.specs.Step.{Grids, either, gravity, masses, momenta, updatedVelocities, move, stepped, stepOf, nodesOf}
-use Rattle.simulation.specs.Run.{Completion, afterOne, runFrom}
+use Rattle.simulation.specs.Step.{Grids, gravity, masses, momenta, updatedVelocities, move, stepped, stepOf, nodesOf}
+use Rattle.simulation.specs.Run.{Completion, runFrom}
 use Rattle.simulation.specs.Demand3.{arrives}
 use Rattle.simulation.proofs.Fields.{round, round-nearest, updatedField, mass-at, momentum-at, velocity-grid}
 use Rattle.simulation.proofs.Steps.{step-result}
@@ -177,8 +177,9 @@ unfolding runFrom arrives
 run-ends s zero records ps grids = inl (refl, refl)
 run-ends s (suc n) records ps grids = go (λ qs. run-ends s n (recordsOf qs) qs (nodesOf s ps)) (stepOf s ps) refl
   where
-    go : ((qs : List Particle) → Ends s n qs (runFrom s n (recordsOf qs) qs (nodesOf s ps) .answer)) → (a : Answer (List Particle)) → stepOf s ps ≡ a → Ends s (suc n) ps (either a (λ qs. afterOne (runFrom s n (recordsOf qs) qs (nodesOf s ps))) (λ k p. record { answer = record { completed = 0; stop = refused k p }; records = records; grids = nodesOf s ps }) .answer)
+    go : ((qs : List Particle) → Ends s n qs (runFrom s n (recordsOf qs) qs (nodesOf s ps) .answer)) → (a : Answer (List Particle)) → stepOf s ps ≡ a → Ends s (suc n) ps (runFrom s (suc n) records ps grids .answer)
     go further (result qs) e =
-        one-more s n ps (runFrom s n (recordsOf qs) qs (nodesOf s ps) .answer)
-        (subst (λ l. Ends s n l (runFrom s n (recordsOf qs) qs (nodesOf s ps) .answer)) (sym (step-result s ps e .1)) (further qs))
-    go further (refused k p) e = inr (record { number = k; place = p; fewer = omega arith; stopped = refl; refuses = e })
+        rw e
+        (one-more s n ps (runFrom s n (recordsOf qs) qs (nodesOf s ps) .answer)
+        (subst (λ l. Ends s n l (runFrom s n (recordsOf qs) qs (nodesOf s ps) .answer)) (sym (step-result s ps e .1)) (further qs)))
+    go further (refused k p) e = rw e (inr (record { number = k; place = p; fewer = omega arith; stopped = refl; refuses = e }))

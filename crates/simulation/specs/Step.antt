@@ -1,5 +1,6 @@
 -- Document 01, "The step" and the operation step: scatter, update and gather on a particle set, and what a caller with any
 -- numbers and any buffers sees after a call: the answer, the records and the three grids. Assumes nothing.
+use mathlib.Core.Path.{_≡_}
 use mathlib.Core.Bool.{not}
 use mathlib.Core.List.{List, map}
 use Prim.Native.Nat.{ℕ, _*_}
@@ -63,6 +64,14 @@ pub record After (A : Type 0) : Type 0 where
   pub answer : A
   pub records : List ℕ
   pub grids : Grids
+
+-- what a caller sees is what a definition says, and nothing else: for the promises of step and run
+pub record Sees {A : Type 0} (after : After A) (told : A) (bytes mass : List ℕ) (x y : List ℤ) : Type 0 where
+  pub answer : told ≡ after .answer
+  pub records : bytes ≡ after .records
+  pub masses : mass ≡ after .grids .mass
+  pub x-velocities : x ≡ after .grids .x
+  pub y-velocities : y ≡ after .grids .y
 
 -- an answer's two cases
 abbrev pub either : {A B : Type 0} → Answer A → (A → B) → (ℕ → ℕ → B) → B
