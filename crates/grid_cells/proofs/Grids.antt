@@ -21,7 +21,6 @@ use lib.Signed.{_≤ℤ_}
 use lib.IntN.{ℤ, pos, natAbs, _+ℤ_, +ℤ-assoc}
 use borrow.Author.Tests.{ltb-true, ltb-false}
 use Rattle.arith.specs.Order.{nonneg-pos}
-use Rattle.arith.specs.Sums.{upTo}
 use Rattle.arith.specs.Size.{Bound, bound-sum}
 use Rattle.apic.specs.Step.{grid, node}
 use Rattle.unpacked.proofs.Laws.{getD-tabulated, length-tabulated}

@@ -4,14 +4,13 @@
 -- Assumes nothing.
 use mathlib.Core.Path.{_≡_, sym, ap, subst, _∙_}
 use mathlib.Core.List.{List, map}
-use Prim.Native.Nat.{ℕ, _+_, _-_, _*_, _<_, _≤_}
-use native.Mathlib.Nat.{le-trans}
+use Prim.Native.Nat.{ℕ, _+_, _-_, _<_}
 use native.Mathlib.Omega.{arith}
-use lib.Dec.{T, leb, ltb, lit<, lit≤}
+use lib.Dec.{lit<, lit≤}
 use lib.ListN.{length, getD, set, length-map, List·getD-map}
-use lib.IntN.{ℤ, pos, natAbs, _+ℤ_}
+use lib.IntN.{ℤ, pos, _+ℤ_}
 use mir.Syntax.{w64}
-use mir.Val.{SFits, Fits, hbits}
+use mir.Val.{SFits, Fits}
 use mir.Facts.{fits-below}
 use Rattle.arith.specs.Size.{Bound, bound-sum, bound-fits, bound-pos}
 use Rattle.grid_cells.specs.Cells.{addAt, addRow, addMassAt, addMassRow, Cells, mostHeld, mostAdded, RowLimits, MassRowLimits}

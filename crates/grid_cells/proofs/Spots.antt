@@ -4,22 +4,18 @@
 --     cells-at, cells-row    a bound on every cell, before and after
 --     masses-at, masses-row  the same of masses, read as integers
 -- Assumes nothing.
-use mathlib.Core.Path.{_≡_, refl, sym, ap, ap₂, subst, _∙_}
+use mathlib.Core.Path.{_≡_, refl, sym, ap, ap₂, _∙_}
 use mathlib.Core.Bool.{Bool, true, false, cond}
 use mathlib.Core.List.{List, [], _∷_, map}
-use Prim.Native.Nat.{ℕ, zero, suc, _+_, _-_, _*_, _<_, _≤_, zero-le}
-use native.Mathlib.Nat.{le-trans}
+use Prim.Native.Nat.{ℕ, zero, suc, _+_, _-_, _<_, _≤_, zero-le}
 use native.Mathlib.Omega.{arith}
-use lib.Dec.{T, eqb, ltb}
-use lib.ListN.{length, getD, set, length-set, length-map, List·getD-map}
+use lib.Dec.{eqb}
+use lib.ListN.{length, getD, set, length-set, List·getD-map}
 use lib.Seq.{getD-set-same, getD-set-other}
 use lib.IntN.{ℤ, pos, _+ℤ_, +ℤ-idr, +ℤ-idl, +ℤ-assoc}
-use mir.Syntax.{w64}
-use mir.Val.{SFits, Fits, hbits}
-use mir.Facts.{fits-below}
 use borrow.Author.Tests.{eqb-true, eqb-false, eq-eqb, ne-eqb}
-use Rattle.arith.specs.Size.{Bound, bound-sum, bound-widen, bound-fits}
-use Rattle.grid_cells.specs.Cells.{addAt, addRow, addMassAt, addMassRow, Cells, mostHeld, mostAdded, RowLimits, MassRowLimits}
+use Rattle.arith.specs.Size.{Bound, bound-sum, bound-widen}
+use Rattle.grid_cells.specs.Cells.{addAt, addRow, addMassAt, addMassRow, Cells}
 
 -- ---- one cell
 

@@ -5,7 +5,7 @@
 -- Assumes nothing.
 use mathlib.Core.Path.{_≡_, sym, ap, subst, _∙_}
 use mathlib.Core.List.{List}
-use Prim.Native.Nat.{ℕ, _+_, _-_, _*_, _≤_, _<_}
+use Prim.Native.Nat.{ℕ, _+_, _-_, _*_}
 use native.Mathlib.Nat.{mul-le-mul}
 use native.Mathlib.Omega.{arith}
 use lib.Dec.{lit≤}
@@ -13,7 +13,7 @@ use lib.ListN.{length}
 use lib.IntN.{ℤ, _+ℤ_, _-ℤ_}
 use mir.Syntax.{w64}
 use mir.Val.{SFits, toZ, ofZ}
-use Rattle.arith.specs.Size.{Bound, sizes, size-given, fits, bounded}
+use Rattle.arith.specs.Size.{Bound, sizes, fits, bounded}
 use Rattle.spline.specs.declared.AxisWeights.{AxisWeights}
 use Rattle.grid_cells.specs.Cells.{mostHeld}
 use Rattle.scatter_block.specs.Lines.{Held, massLine, momentumLine, massBlock, momentumBlock, LineNumbers, LineLimits, LineAdded, BlockLimits, BlockAdded, mostSpeed, mostChange, mostMiddle}

@@ -14,7 +14,7 @@ use Rattle.spline.specs.declared.AxisWeights.{AxisWeights}
 use Rattle.grid_cells.specs.Cells.{addMassRow, MassRowLimits, Cells, mostHeld, mostAdded}
 use Rattle.grid_cells.proofs.Spots.{length-row, cells-row, cells-widen, masses-row, length-mass-row}
 use Rattle.scatter_block.specs.Lines.{Held, LineNumbers, momentumRow, massLine, momentumLine, MomentumLimits, LineLimits, LineAdded, mostMassWeight, mostSpeed, mostChange}
-use Rattle.scatter_block.proofs.Momenta.{Factors, factors, product-bound}
+use Rattle.scatter_block.proofs.Momenta.{factors, product-bound}
 
 weighed-most : {c v m : ℕ} → c ≤ 8380416 → v ≤ 8192 → m ≡ c * v → m ≤ mostMassWeight
 weighed-most h g e = rw e (mul-le-mul h g)

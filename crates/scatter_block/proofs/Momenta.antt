@@ -1,10 +1,10 @@
 -- The shares of momentum of three nodes in a line, within their limits. Assumes nothing.
-use mathlib.Core.Path.{_≡_, sym, ap, subst, _∙_}
+use mathlib.Core.Path.{_≡_, _∙_}
 use mathlib.Core.List.{List}
-use Prim.Native.Nat.{ℕ, _+_, _*_, _≤_, _<_, _^_}
+use Prim.Native.Nat.{ℕ, _+_, _≤_}
 use lib.IntN.{ℤ, pos, _+ℤ_, _-ℤ_, _*ℤ_}
 use mir.Syntax.{w64}
-use mir.Val.{SFits, toZ, ofZ, hbits}
+use mir.Val.{SFits, toZ, ofZ}
 use Rattle.arith.specs.Size.{Bound, sizes, size-given, fits, bounded}
 use Rattle.grid_cells.specs.Cells.{addRow, RowLimits, mostAdded}
 use Rattle.scatter_block.specs.Lines.{momentumRow, MomentumLimits, mostMassWeight, mostSpeed, mostChange}

@@ -7,7 +7,7 @@ use lib.ListN.{length}
 use lib.IntN.{ℤ, pos, _+ℤ_, _-ℤ_, _*ℤ_}
 use Rattle.arith.specs.Size.{Bound}
 use Rattle.spline.specs.declared.AxisWeights.{AxisWeights}
-use Rattle.grid_cells.specs.Cells.{addRow, addMassRow, Cells, mostHeld, mostAdded}
+use Rattle.grid_cells.specs.Cells.{addRow, addMassRow, Cells, mostHeld}
 
 -- ---- a line
 

@@ -1,7 +1,2 @@
-pub mod Numbers
-pub mod Weights
-pub mod Shares
-pub mod Bounds
-pub mod Particles
 pub mod Reading
 pub mod Sets

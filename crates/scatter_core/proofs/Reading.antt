@@ -1,5 +1,5 @@
 -- Reading the k-th particle's numbers from an array that holds a particle set. Assumes nothing.
-use mathlib.Core.Path.{_≡_, refl, sym, ap, subst, _∙_}
+use mathlib.Core.Path.{_≡_, sym, ap, subst, _∙_}
 use mathlib.Core.List.{List, [], _∷_}
 use Prim.Native.Nat.{ℕ, _+_, _*_, _^_, _<_, _≤_}
 use native.Mathlib.Omega.{arith}
@@ -10,15 +10,16 @@ use lib.Signed.{nonNeg}
 use mir.Syntax.{w64}
 use mir.Val.{Fits, toZ, ofZ, hbits}
 use mir.Facts.{fits-below}
-use Rattle.arith.specs.Size.{Bound, bound-pos}
+use Rattle.arith.specs.Size.{bound-pos}
 use Rattle.particle.specs.declared.Particle.{Particle}
 use Rattle.apic.specs.Step.{nodeMass, nodeMomentum}
-use Rattle.apic.specs.Limits.{SetLimits, ParticleLimits}
-use Rattle.unpacked.specs.Unpacked.{UnpackedSet, particleAt, particlesOf}
+use Rattle.apic.specs.Limits.{ParticleLimits}
+use Rattle.unpacked.specs.Unpacked.{particleAt}
 use Rattle.unpacked.proofs.Laws.{NumbersAt, count, set-numbers-at, limits-at}
 use Rattle.scatter_block.proofs.Machine.{passed}
-use Rattle.scatter_core.specs.Scatter.{Added, NthReady, ParticleReady, particleOf}
-use Rattle.scatter_core.proofs.Particles.{axis-small}
+use Rattle.scatter_particle.specs.Added.{Added, ParticleReady, particleOf}
+use Rattle.scatter_particle.proofs.Particles.{axis-small}
+use Rattle.scatter_core.specs.Scatter.{NthReady}
 
 -- a number that is read, and a natural number's cast
 read-natural : {z : ℤ} {m n : ℕ} → z ≡ pos m → m ≤ n → T (ltb n (2 ^ hbits w64)) → toZ w64 (ofZ w64 z) ≡ pos m

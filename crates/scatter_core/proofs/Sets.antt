@@ -4,7 +4,7 @@
 --     held-so-far                   the total mass bounds every cell on the way
 --     scattered                     a set added to cleared grids
 -- Assumes nothing.
-use mathlib.Core.Path.{_≡_, refl, sym, ap, ap₂, subst, _∙_}
+use mathlib.Core.Path.{_≡_, refl, sym, ap, subst, _∙_}
 use mathlib.Core.List.{List, [], _∷_, _++_, map}
 use Prim.Native.Nat.{ℕ, zero, suc, _+_, _*_, _/_, _%_, _<_, _≤_, zero-le}
 use native.Mathlib.Nat.{le-trans, mul-le-mul-right, zero-add}
@@ -13,24 +13,23 @@ use native.Mathlib.Omega.{arith}
 use lib.Dec.{lit≤}
 use lib.ListN.{length, getD, take, replicate, length-map, length-replicate, List·getD-map}
 use lib.Seq.{take-suc, take-all}
-use lib.Signed.{_≤ℤ_}
-use lib.IntN.{ℤ, pos, natAbs, _+ℤ_, _*ℤ_, +ℤ-idr, +ℤ-idl}
-use Rattle.arith.specs.Size.{Bound, bound-widen}
-use Rattle.arith.specs.Sums.{Each, sumOver, sum-append}
-use Rattle.spline.specs.Spline.{axisWeight}
+use lib.IntN.{ℤ, pos, natAbs, _+ℤ_, +ℤ-idr, +ℤ-idl}
+use Rattle.arith.specs.Size.{bound-widen}
+use Rattle.arith.specs.Sums.{Each, sum-append}
 use Rattle.particle.specs.declared.Particle.{Particle}
 use Rattle.apic.specs.Step.{Axis, alongX, alongY, nodeMass, nodeMomentum, grid, node}
 use Rattle.apic.specs.Totals.{totalMass}
-use Rattle.apic.specs.Limits.{SetLimits, ParticleLimits}
-use Rattle.unpacked.specs.Unpacked.{UnpackedSet, particleAt, particlesOf}
+use Rattle.apic.specs.Limits.{ParticleLimits}
+use Rattle.unpacked.specs.Unpacked.{particleAt, particlesOf}
 use Rattle.unpacked.proofs.Laws.{count, particle-of, limits-at}
 use Rattle.grid_cells.specs.Cells.{Cells}
 use Rattle.grid_cells.specs.Plus.{plus, massPlus}
 use Rattle.grid_cells.proofs.Spots.{cells-widen}
 use Rattle.grid_cells.proofs.Grids.{grid-cong, length-plus, plus-from, plus-cong, plus-plus, plus-cells, mass-plus, plus-mass, length-mass-plus}
 use Rattle.scatter_block.specs.Lines.{Held, mostBefore}
-use Rattle.scatter_core.specs.Scatter.{Added, Scattered, SetReady, ScatterReady, NthReady, massAt, momentumAt, mostAtFirst}
-use Rattle.scatter_core.proofs.Bounds.{mass-nonneg, mass-bounded, momentum-bounded, weightMost, rateMost}
+use Rattle.scatter_particle.specs.Added.{Added, massAt, momentumAt}
+use Rattle.scatter_particle.proofs.Bounds.{mass-nonneg, mass-bounded, momentum-bounded, weightMost, rateMost}
+use Rattle.scatter_core.specs.Scatter.{Scattered, SetReady, ScatterReady, NthReady, mostAtFirst}
 
 -- ---- no particle, and one set after another
 

@@ -1,81 +1,8 @@
 // The particle-to-grid transfer on unpacked particles. A scatter clears the grids and adds the particle set to them.
-ghost use mathlib.Core.Path.{_≡_};
 ghost use mathlib.Core.List.{[], _∷_};
-ghost use Prim.Native.Nat.{_≤_};
-ghost use lib.IntN.{pos, _+ℤ_, _*ℤ_};
-ghost use Rattle.arith.specs.Size.{Bound};
 ghost use Rattle.unpacked.specs.Unpacked.{particleAt, particlesOf};
-ghost use Rattle.scatter_core.specs.Scatter.{Added, Scattered, SetReady, ScatterReady, NthReady, ParticleReady, particleOf, Middle, SpeedLimits};
-
-// The nearest node minus particle, along one axis.
-fn middle(x: usize) -> i64
-    requires { ⌜ x ≤ 4095 ⌝ }
-    ensures { λ r. ⌜ Middle x r ⌝ }
-{
-    32 - (((x + 32) % 64) as i64)
-}
-
-// A particle's momentum per mass and weight at the node that is dx and dy from it.
-fn speed(v: i64, bx: i64, by: i64, dx: i64, dy: i64) -> i64
-    requires { ⌜ SpeedLimits v bx by dx dy ⌝ }
-    ensures { λ r. ⌜ r ≡ pos 1024 *ℤ v +ℤ bx *ℤ dx +ℤ by *ℤ dy ⌝ }
-{
-    1024 * v + bx * dx + by * dy
-}
-
-// What an entry of B adds from a node to its neighbour.
-fn spread(b: i64) -> i64
-    requires { ⌜ Bound b 2047 ⌝ }
-    ensures { λ r. ⌜ r ≡ pos 64 *ℤ b ⌝ }
-{
-    64 * b
-}
-
-// Adds one particle's shares to the nine nodes around it.
-fn add_particle(
-    m: u64,
-    x: usize,
-    y: usize,
-    vx: i64,
-    vy: i64,
-    bxx: i64,
-    bxy: i64,
-    byx: i64,
-    byy: i64,
-    nx: usize,
-    ny: usize,
-    table: &[[u16; 3]; 64],
-    mass: &mut [u64],
-    px: &mut [i64],
-    py: &mut [i64],
-)
-    requires { ⌜ ParticleReady nx ny (particleOf m x y vx vy bxx bxy byx byy) (now table) (now mass) (now px) (now py) ⌝ }
-    ensures { λ r. ⌜ Added nx ny (particleOf m x y vx vy bxx bxy byx byy ∷ []) (now (mass .entry)) (now (px .entry)) (now (py .entry)) (now (mass .exit)) (now (px .exit)) (now (py .exit)) ⌝ }
-{
-    let wx = spline::row(table, (x + 32) % 64);
-    let wy = spline::row(table, (y + 32) % 64);
-    let dx = middle(x);
-    let dy = middle(y);
-    let sx = speed(vx, bxx, bxy, dx, dy);
-    let sy = speed(vy, byx, byy, dx, dy);
-    let k = (y + 32) / 64 * nx + (x + 32) / 64;
-    scatter_block::add_block(
-        mass,
-        px,
-        py,
-        nx,
-        k,
-        m,
-        wx,
-        wy,
-        sx,
-        spread(bxx),
-        spread(bxy),
-        sy,
-        spread(byx),
-        spread(byy),
-    );
-}
+ghost use Rattle.scatter_particle.specs.Added.{Added};
+ghost use Rattle.scatter_core.specs.Scatter.{Scattered, SetReady, ScatterReady, NthReady};
 
 // Adds the shares of the particle whose numbers start at place 10·k.
 fn add_nth(
@@ -101,7 +28,7 @@ fn add_nth(
     let bxy = particles[at + 7];
     let byx = particles[at + 8];
     let byy = particles[at + 9];
-    add_particle(
+    scatter_particle::add_particle(
         m,
         x,
         y,

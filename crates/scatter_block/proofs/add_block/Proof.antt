@@ -1,6 +1,6 @@
 -- `scatter_block::add_block` meets its contract: three products and three lines. Assumes nothing.
 use borrow.Author.Needs.{needs}
-use Rattle.scatter_block.proofs.Block.{Speeds, x-speeds, y-speeds, ask-1, ask-2, ask-3, block-added}
+use Rattle.scatter_block.proofs.Block.{x-speeds, y-speeds, ask-1, ask-2, ask-3, block-added}
 use Rattle.scatter_block.proofs.add_block.Statement.{statement}
 use Rattle.scatter_block.proofs.add_block.Tie as tie
 

@@ -1,5 +1,4 @@
 -- `scatter_block::times` meets its contract: the product fits. Assumes nothing.
-use Prim.Native.Nat.{_≤_, _*_}
 use native.Mathlib.Nat.{mul-le-mul}
 use mir.Facts.{fits-below}
 use borrow.Author.Needs.{needs}

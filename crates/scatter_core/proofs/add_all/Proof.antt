@@ -1,10 +1,8 @@
 -- `scatter_core::add_all` meets its contract. The loop's invariant: the first k particles are added. The measure is how many
 -- are left. Assumes nothing.
-use mathlib.Core.Path.{_≡_, sym, _∙_}
+use mathlib.Core.Path.{sym, _∙_}
 use Prim.Native.Nat.{_-_}
 use native.Mathlib.Omega.{arith}
-use borrow.Author.Needs.{needs}
-use Rattle.scatter_block.specs.Lines.{Held}
 use Rattle.scatter_core.proofs.Sets.{SoFar, begin, held-so-far, nth-ready, turn, finish}
 use Rattle.scatter_core.proofs.add_all.Statement.{statement}
 use Rattle.scatter_core.proofs.add_all.Tie as tie

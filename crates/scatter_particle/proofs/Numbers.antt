@@ -3,18 +3,18 @@
 --     speed-facts                    the momentum per mass and weight
 --     spread-fits, spread-is         what an entry of B adds from node to node
 -- Assumes nothing.
-use mathlib.Core.Path.{_≡_, refl, sym, ap, subst, _∙_}
-use mathlib.Core.List.{[], _∷_}
-use Prim.Native.Nat.{ℕ, _+_, _*_, _/_, _%_, _<_, _≤_}
+use mathlib.Core.Path.{_≡_, refl, sym, _∙_}
+use mathlib.Core.List.{[]}
+use Prim.Native.Nat.{ℕ, _+_, _%_, _≤_}
 use native.Mathlib.Omega.{arith}
 use lib.IntN.{ℤ, pos, _+ℤ_, _-ℤ_, _*ℤ_}
 use mir.Syntax.{w64}
 use mir.Val.{SFits, toZ, ofZ}
 use Rattle.arith.specs.Order.{linear, reading}
-use Rattle.arith.specs.Size.{Bound, sizes, fits, size-given, bounded, bound-equal, within-bound}
+use Rattle.arith.specs.Size.{Bound, sizes, fits, size-given, bound-equal, within-bound}
 use Rattle.spline.specs.Spline.{nearestNode, displacement}
 use Rattle.scatter_block.proofs.Machine.{passed, signed, fits₂, result₂}
-use Rattle.scatter_core.specs.Scatter.{Middle, SpeedLimits}
+use Rattle.scatter_particle.specs.Added.{Middle, SpeedLimits}
 
 -- ---- the nearest node minus particle
 

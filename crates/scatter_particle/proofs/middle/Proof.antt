@@ -1,8 +1,8 @@
--- `scatter_core::middle` meets its contract. Assumes nothing.
+-- `scatter_particle::middle` meets its contract. Assumes nothing.
 use borrow.Author.Needs.{needs}
-use Rattle.scatter_core.proofs.Numbers.{middle-fits, middle-of}
-use Rattle.scatter_core.proofs.middle.Statement.{statement}
-use Rattle.scatter_core.proofs.middle.Tie as tie
+use Rattle.scatter_particle.proofs.Numbers.{middle-fits, middle-of}
+use Rattle.scatter_particle.proofs.middle.Statement.{statement}
+use Rattle.scatter_particle.proofs.middle.Tie as tie
 
 add-result : tie.Need-add-result
 add-result c = search needs

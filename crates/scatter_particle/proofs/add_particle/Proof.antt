@@ -1,11 +1,11 @@
--- `scatter_core::add_particle` meets its contract: the particle's cell and numbers, and the block around it.
+-- `scatter_particle::add_particle` meets its contract: the particle's cell and numbers, and the block around it.
 -- Assumes nothing.
 use native.Mathlib.Omega.{arith}
 use borrow.Author.Needs.{needs}
 use Rattle.spline.specs.Spline.{nearestNode}
-use Rattle.scatter_core.proofs.Particles.{axis-small, x-touched, y-touched, cell-below, block-ready, particle-added}
-use Rattle.scatter_core.proofs.add_particle.Statement.{statement}
-use Rattle.scatter_core.proofs.add_particle.Tie as tie
+use Rattle.scatter_particle.proofs.Particles.{axis-small, x-touched, y-touched, cell-below, block-ready, particle-added}
+use Rattle.scatter_particle.proofs.add_particle.Statement.{statement}
+use Rattle.scatter_particle.proofs.add_particle.Tie as tie
 
 add-row : tie.Need-add-row
 add-row c = omega (arith, axis-small (c .before .args .nx) (c .before .args .x) (c .before .pre .sizes .x-most) (c .before .pre .limits .x-on))

@@ -1,7 +1,7 @@
--- `scatter_core::speed` meets its contract. Assumes nothing.
-use Rattle.scatter_core.proofs.Numbers.{SpeedFacts, speed-facts}
-use Rattle.scatter_core.proofs.speed.Statement.{statement}
-use Rattle.scatter_core.proofs.speed.Tie as tie
+-- `scatter_particle::speed` meets its contract. Assumes nothing.
+use Rattle.scatter_particle.proofs.Numbers.{speed-facts}
+use Rattle.scatter_particle.proofs.speed.Statement.{statement}
+use Rattle.scatter_particle.proofs.speed.Tie as tie
 
 mul-result : tie.Need-mul-result
 mul-result c = speed-facts (c .pre) .v-fits

@@ -4,14 +4,14 @@
 --     block-ready                what the function that adds a block asks
 --     particle-added             the particle's shares are added
 -- Assumes nothing.
-use mathlib.Core.Path.{_≡_, refl, sym, ap, subst, _∙_}
+use mathlib.Core.Path.{_≡_, sym, subst, _∙_}
 use mathlib.Core.List.{List, [], _∷_, map}
 use Prim.Native.Nat.{ℕ, _+_, _-_, _*_, _%_, _<_, _≤_}
-use native.Mathlib.Nat.{mul-le-mul, mul-le-mul-right, le-trans, lt-of-lt-of-le, one-mul}
+use native.Mathlib.Nat.{mul-le-mul, mul-le-mul-right, lt-of-lt-of-le, one-mul}
 use native.Mathlib.Omega.{arith}
 use lib.Dec.{T, leb, leb→le}
 use lib.ListN.{length, getD}
-use lib.IntN.{ℤ, pos, _+ℤ_, _-ℤ_, _*ℤ_, +ℤ-idr}
+use lib.IntN.{ℤ, pos, _+ℤ_, _*ℤ_, +ℤ-idr}
 use mir.Syntax.{w64}
 use mir.Val.{toZ, ofZ}
 use mir.Facts.{and-yes}
@@ -22,15 +22,14 @@ use Rattle.spline.specs.declared.AxisWeights.{AxisWeights}
 use Rattle.spline.proofs.Axis.{Touched, touched}
 use Rattle.particle.specs.declared.Particle.{Particle}
 use Rattle.apic.specs.Step.{Axis, alongX, alongY, velocity, affine, nodeMass, nodeMomentum}
-use Rattle.apic.specs.Limits.{SizeLimits, ParticleLimits}
-use Rattle.grid_cells.specs.Plus.{plus}
+use Rattle.apic.specs.Limits.{SizeLimits}
 use Rattle.grid_cells.proofs.Grids.{row-high, line-above-index, index-below, plus-cong, mass-plus}
 use Rattle.scatter_block.specs.Lines.{Held, BlockLimits, BlockAdded, mostBefore, mostMiddle, mostChange}
 use Rattle.scatter_block.proofs.Machine.{passed}
-use Rattle.scatter_core.specs.Scatter.{Added, ParticleReady, Middle, massAt, momentumAt}
-use Rattle.scatter_core.proofs.Weights.{WeightsOf, weights-of}
-use Rattle.scatter_core.proofs.Bounds.{mass-nonneg, AlongLimits, along-limits}
-use Rattle.scatter_core.proofs.Shares.{momentum-shares, mass-shares}
+use Rattle.scatter_particle.specs.Added.{Added, ParticleReady, Middle, massAt, momentumAt}
+use Rattle.scatter_particle.proofs.Weights.{WeightsOf, weights-of}
+use Rattle.scatter_particle.proofs.Bounds.{mass-nonneg, AlongLimits, along-limits}
+use Rattle.scatter_particle.proofs.Shares.{momentum-shares, mass-shares}
 
 -- ---- the cell
 

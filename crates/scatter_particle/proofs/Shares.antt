@@ -2,15 +2,15 @@
 --     momentum-shares    of momentum along one axis
 --     mass-shares        of mass
 -- Assumes nothing.
-use mathlib.Core.Path.{_≡_, refl, sym, ap, subst, _∙_}
+use mathlib.Core.Path.{_≡_, ap, _∙_}
 use mathlib.Core.List.{List, [], _∷_, map}
-use Prim.Native.Nat.{ℕ, _+_, _-_, _*_, _<_, _≤_}
+use Prim.Native.Nat.{ℕ, _+_, _-_, _*_, _≤_}
 use native.Mathlib.Omega.{arith}
 use lib.ListN.{length, length-map}
 use lib.IntN.{ℤ, pos, _+ℤ_, _-ℤ_, _*ℤ_}
 use Rattle.arith.specs.Order.{linear, reading}
 use Rattle.arith.specs.Solver.{ring, quote}
-use Rattle.spline.specs.Spline.{nearestNode, offset, displacement, lowerWeight, nearestWeight, upperWeight, axisWeight}
+use Rattle.spline.specs.Spline.{nearestNode, displacement, axisWeight}
 use Rattle.spline.specs.declared.AxisWeights.{AxisWeights}
 use Rattle.spline.proofs.Axis.{Touched}
 use Rattle.grid_cells.specs.Cells.{addRow}
@@ -18,7 +18,7 @@ use Rattle.grid_cells.specs.Plus.{plus}
 use Rattle.grid_cells.proofs.Spots.{three, masses-row}
 use Rattle.grid_cells.proofs.Grids.{block-plus}
 use Rattle.scatter_block.specs.Lines.{massLine, momentumRow, momentumLine, massBlock, momentumBlock}
-use Rattle.scatter_core.proofs.Weights.{WeightsOf}
+use Rattle.scatter_particle.proofs.Weights.{WeightsOf}
 
 -- the axis's weights are three numbers of the table
 axis-three : {x : ℕ} {w : AxisWeights} → WeightsOf x w → (i : ℕ) → three (nearestNode x) (pos (w .lower)) (pos (w .nearest)) (pos (w .upper)) i ≡ axisWeight x i

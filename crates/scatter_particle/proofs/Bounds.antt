@@ -4,25 +4,25 @@
 -- Assumes nothing.
 use mathlib.Core.Path.{_≡_, refl, sym, ap, subst, _∙_}
 use mathlib.Core.List.{List, [], _∷_}
-use Prim.Native.Nat.{ℕ, _+_, _-_, _*_, _/_, _<_, _≤_, zero-le}
-use native.Mathlib.Nat.{le-refl, le-trans, mul-assoc, add-mul}
+use Prim.Native.Nat.{ℕ, _*_, zero-le}
+use native.Mathlib.Nat.{le-refl, mul-assoc, add-mul}
 use native.Mathlib.Omega.{arith}
 use lib.Signed.{_≤ℤ_}
-use lib.IntN.{ℤ, pos, natAbs, _+ℤ_, _-ℤ_, _*ℤ_}
+use lib.IntN.{ℤ, pos, _+ℤ_, _*ℤ_}
 use Rattle.arith.specs.Order.{linear, reading, pos-nonneg, *ℤ-nonneg}
 use Rattle.arith.specs.Solver.{ring, quote}
 use Rattle.arith.specs.Sums.{Each, sumOver, sum-nonneg, each-map}
-use Rattle.arith.specs.Size.{Bound, Size, sizes, bounded, bound-pos, bound-sum, bound-product, bound-equal, bound-widen, within-bound}
-use Rattle.spline.specs.Spline.{onAxis, nearestNode, offset, displacement, axisWeight, lowerWeight, nearestWeight, upperWeight}
-use Rattle.spline.specs.Moments.{Moments}
+use Rattle.arith.specs.Size.{Bound, sizes, bounded, bound-pos, bound-sum, bound-product, bound-equal, within-bound}
+use Rattle.spline.specs.Spline.{nearestNode, offset, displacement, axisWeight, lowerWeight, nearestWeight, upperWeight}
 use Rattle.spline.proofs.Table.{RowFacts}
-use Rattle.spline.proofs.Axis.{offset-facts, moments, Touched, touched}
+use Rattle.spline.proofs.Axis.{offset-facts, moments}
 use Rattle.particle.specs.declared.Particle.{Particle}
 use Rattle.apic.specs.Step.{Axis, alongX, alongY, velocity, affine, nodeMass, nodeMomentum}
 use Rattle.apic.specs.Totals.{totalMass}
 use Rattle.apic.specs.Limits.{ParticleLimits}
-use Rattle.grid_cells.proofs.Spots.{Place, place, lower, nearest, upper, far, three, three-lower, three-nearest, three-upper, three-far, three-bound}
-use Rattle.scatter_core.specs.Scatter.{massAt, momentumAt}
+use Rattle.grid_cells.proofs.Spots.{Place, place, lower, nearest, upper, far, three, three-far, three-bound}
+use Rattle.scatter_particle.specs.Added.{massAt, momentumAt}
+use Rattle.scatter_particle.proofs.Weights.{weights-total}
 
 -- ---- one axis
 
@@ -33,14 +33,8 @@ record WeightBounds (q : ℤ) : Type 0 where
 
 weight-bounds : (q : ℤ) → RowFacts q → WeightBounds q
 weight-bounds q f =
-    record {
-      of-lower = record { size = omega (arith, total) };
-      of-nearest = record { size = omega (arith, total) };
-      of-upper = record { size = omega (arith, total) };
-    }
-  where
-    total : natAbs (lowerWeight q) + natAbs (nearestWeight q) + natAbs (upperWeight q) ≡ 8192
-    total = ap natAbs ((λ i. f .lower i +ℤ f .nearest i +ℤ f .upper i) ∙ f .total)
+    let total = weights-total q f in
+    record { of-lower = record { size = omega arith }; of-nearest = record { size = omega arith }; of-upper = record { size = omega arith } }
 
 axis-is : (x i : ℕ) → axisWeight x i ≡ three (nearestNode x) (lowerWeight (offset x)) (nearestWeight (offset x)) (upperWeight (offset x)) i
 unfolding axisWeight three

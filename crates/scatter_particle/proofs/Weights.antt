@@ -1,7 +1,7 @@
 -- The weights that the table holds for a particle. Assumes nothing.
-use mathlib.Core.Path.{_≡_, refl, sym, ap, subst, _∙_}
-use mathlib.Core.List.{List, [], _∷_}
-use Prim.Native.Nat.{ℕ, _+_, _*_, _/_, _%_, _<_, _≤_}
+use mathlib.Core.Path.{_≡_, sym, ap, subst, _∙_}
+use mathlib.Core.List.{List, []}
+use Prim.Native.Nat.{ℕ, _+_, _%_, _<_}
 use native.Mathlib.Omega.{arith}
 use lib.ListN.{getD}
 use lib.IntN.{ℤ, pos, natAbs, _+ℤ_, _-ℤ_}
@@ -23,12 +23,14 @@ offset-of : (x : ℕ) → offset x ≡ pos ((x + 32) % 64) -ℤ pos 32
 unfolding offset nearestNode
 offset-of x = linear [] (tt {0}) (search reading depth 30) (omega arith)
 
+-- the three weights are natural numbers that total 8192
+pub weights-total : (q : ℤ) → RowFacts q → natAbs (lowerWeight q) + natAbs (nearestWeight q) + natAbs (upperWeight q) ≡ 8192
+weights-total q f = ap natAbs ((λ i. f .lower i +ℤ f .nearest i +ℤ f .upper i) ∙ f .total)
+
 row-weights : (q : ℤ) → RowFacts q → WeightsMost (rowOf (tableRow q))
 row-weights q f =
-    record { lower-most = omega (arith, total); nearest-most = omega (arith, total); upper-most = omega (arith, total) }
-  where
-    total : natAbs (lowerWeight q) + natAbs (nearestWeight q) + natAbs (upperWeight q) ≡ 8192
-    total = ap natAbs ((λ i. f .lower i +ℤ f .nearest i +ℤ f .upper i) ∙ f .total)
+    let total = weights-total q f in
+    record { lower-most = omega arith; nearest-most = omega arith; upper-most = omega arith }
 
 pub weights-of : (x : ℕ) (l : List (List ℕ)) (w : AxisWeights) → l ≡ table → w ≡ rowOf (getD l ((x + 32) % 64) []) → WeightsOf x w
 weights-of x l w t e =

@@ -1,0 +1,5 @@
+pub mod Numbers
+pub mod Weights
+pub mod Shares
+pub mod Bounds
+pub mod Particles
