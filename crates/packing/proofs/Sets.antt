@@ -4,24 +4,26 @@
 --     records-back                   packing what was unpacked gives the set back, and records-unpacked the other way round
 --     unpacked-set                   particles within a set's limits, unpacked, are an array that holds them
 --     count-in, in-at, record-at     the particles in records, one by one
---     particle-at                    the particles of an array, one by one
+--     found, not-refused             one record of an accepted set, by the record reader's answer
+--     count-of, particle-at          the particles of an array, one by one
+--     written-part                   one record, as the record writer leaves it
 -- Assumes nothing.
-use mathlib.Core.Path.{_≡_, refl, sym, ap, ap₂, _∙_, subst}
-use mathlib.Core.List.{List, [], _∷_, map}
+use mathlib.Core.Path.{_≡_, sym, ap, ap₂, _∙_, subst}
+use mathlib.Core.List.{List, _∷_, map}
 use Prim.Native.Nat.{ℕ, zero, suc, _+_, _-_, _*_, _/_, _<_, _≤_}
 use native.Mathlib.Nat.{zero-add, add-zero, add-suc, suc-add, le-of-suc-le-suc, not-suc-le-zero}
 use native.Mathlib.Omega.{arith}
 use lib.ListN.{length, getD, take, drop}
-use borrow.Rule.Slice.PartMut.{mid-len}
 use lib.IntN.{ℤ}
+use borrow.Rule.Slice.PartMut.{mid-len}
 use Rattle.refusal.specs.Refused.{result}
 use Rattle.refusal.specs.declared.Refusal.{Refusal}
 use Rattle.refusal.proofs.Answers.{same-result, not-result}
-use Rattle.arith.specs.Sums.{from, upTo}
+use Rattle.arith.specs.Sums.{from}
 use Rattle.particle.specs.declared.Particle.{Particle}
 use Rattle.particle.specs.declared.Read.{Read}
 use Rattle.particle.specs.declared.Read.the-variants as read
-use Rattle.particle.specs.Record.{particleOf, recordOf, readAnswer, toldRead, written}
+use Rattle.particle.specs.Record.{recordOf, readAnswer, toldRead, written}
 use Rattle.particle.proofs.Valid.{Valid, valid-write}
 use Rattle.particle.proofs.Writing.{after, judged}
 use Rattle.particle.proofs.RoundTrip.{read-held}

@@ -1,5 +1,4 @@
--- A particle set's records as one array of numbers, and back: what the functions that unpack and pack are given, and the
--- particles that they leave.
+-- A particle set's records as one array of numbers, and back: what the functions that unpack and pack are given.
 --     Accepted        records that are accepted as a set, on some grid
 --     Packable        an array that holds a set, on some grid
 -- Assumes nothing.

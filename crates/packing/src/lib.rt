@@ -63,6 +63,7 @@ fn unpack_record(records: &[u8], k: usize, array: &mut [i64])
     let at = RECORD_LENGTH * k;
     match particle::read_at(&records[at..at + RECORD_LENGTH], k) {
         Read::Found(p) => put_particle(p, k, array),
+        // No record of an accepted set is refused.
         Read::Refused(_) => {}
     }
 }

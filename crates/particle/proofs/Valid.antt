@@ -45,7 +45,7 @@ within-back (suc m) (pos n) h = le-leb n (suc m) h
 within-back zero (negsuc n) h = absurd (omega arith)
 within-back (suc m) (negsuc n) h = simp (le-leb n m (omega arith))
 
-two-within : (k : ℕ) (a b : ℤ) → (between (negℤ (pos k)) (pos k) a && between (negℤ (pos k)) (pos k) b) ≡ true → (natAbs a ≤ k) × (natAbs b ≤ k)
+pub two-within : (k : ℕ) (a b : ℤ) → (between (negℤ (pos k)) (pos k) a && between (negℤ (pos k)) (pos k) b) ≡ true → (natAbs a ≤ k) × (natAbs b ≤ k)
 two-within k a b e =
     let t = both (between (negℤ (pos k)) (pos k) a) (between (negℤ (pos k)) (pos k) b) e in
     (within k a (t .0), within k b (t .1))
@@ -89,7 +89,7 @@ both-back a b p q = rw (p, q)
 checks-back : (m v b x : Bool) → m ≡ true → v ≡ true → b ≡ true → x ≡ true → refuseIf {A = Unit} (not m) 4 0 (refuseIf (not v) 5 0 (refuseIf (not b) 6 0 (refuseIf (not x) 7 0 (result tt)))) ≡ result tt
 checks-back m v b x p q r s = rw (p, q, r, s)
 
-two-within-back : (k : ℕ) (a b : ℤ) → natAbs a ≤ k → natAbs b ≤ k → (between (negℤ (pos k)) (pos k) a && between (negℤ (pos k)) (pos k) b) ≡ true
+pub two-within-back : (k : ℕ) (a b : ℤ) → natAbs a ≤ k → natAbs b ≤ k → (between (negℤ (pos k)) (pos k) a && between (negℤ (pos k)) (pos k) b) ≡ true
 two-within-back k a b p q = both-back (between (negℤ (pos k)) (pos k) a) (between (negℤ (pos k)) (pos k) b) (within-back k a p) (within-back k b q)
 
 pub valid-write : (p : Particle) → Valid p → writeParticle p ≡ result tt

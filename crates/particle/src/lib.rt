@@ -1,5 +1,5 @@
 // A particle record of 14 bytes: read and written, bit for bit.
-mod bits;
+pub mod bits;
 pub mod limits;
 
 use refusal::Refusal;
@@ -163,13 +163,13 @@ fn pack(p: Particle) -> [u8; RECORD_LENGTH]
     bytes_of(p.identifier, p.mass, p.x, p.y, vx, vy, bxx, bxy, byx, byy)
 }
 
-// Copies a record into a buffer of its length.
-fn store(source: &[u8], bytes: &mut [u8])
-    requires { ⌜ (length (now source) ≡ recordLength) × (length (now bytes) ≡ recordLength) ⌝ }
+// Copies bytes into a buffer of their number. Whoever writes a record or a header calls it.
+pub fn store(source: &[u8], bytes: &mut [u8])
+    requires { ⌜ length (now source) ≡ length (now bytes) ⌝ }
     ensures { λ _. ⌜ now (bytes .exit) ≡ now (source .entry) ⌝ }
 {
     let mut i = 0;
-    while i < RECORD_LENGTH {
+    while i < source.len() {
         bytes[i] = source[i];
         i += 1;
     }

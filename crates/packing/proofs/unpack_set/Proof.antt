@@ -1,11 +1,10 @@
 -- `packing::unpack_set` meets its contract. The loop's invariant: the numbers of the first k particles are in their places. The
 -- measure is what is left. Assumes nothing.
-use Rattle.particles.specs.Set.{particleIn, particlesIn}
-use mathlib.Core.Path.{sym, subst, _∙_}
-use Prim.Native.Nat.{_-_, _<_, _≤_}
+use Prim.Native.Nat.{_-_, _<_}
 use native.Mathlib.Omega.{arith}
 use denote.Ref.{now}
 use lib.ListN.{length}
+use Rattle.particles.specs.Set.{particleIn, particlesIn}
 use Rattle.unpacked.specs.Unpacked.{unpacked}
 use Rattle.packing.proofs.Filling.{Filled, number-parts, filled-start, filled-room, filled-next, filled-end}
 use Rattle.packing.proofs.Sets.{count-in, in-at, record-at}

@@ -1,5 +1,5 @@
 -- `store` meets its contract. The loop's invariant: as many bytes as were passed are the source's, and the buffer keeps its length.
--- The measure is what is left of the record. Assumes nothing.
+-- The measure is what is left of the source. Assumes nothing.
 use Prim.Native.Nat.{ℕ, _≤_, _<_, _+_, _-_}
 use native.Mathlib.Omega.{arith}
 use native.Mathlib.Numerals.{add-one}
@@ -8,7 +8,6 @@ use mathlib.Core.List.{List, [], _∷_, _++_}
 use denote.Ref.{now}
 use lib.ListN.{length, getD, take, set, length-set}
 use lib.Seq.{take-suc-set, take-suc, take-all}
-use Rattle.particle.specs.Layout.{recordLength}
 use Rattle.particle.proofs.store.Statement.{statement}
 use Rattle.particle.proofs.store.Tie as tie
 
@@ -17,13 +16,13 @@ copied d s i h k e =
     rw add-one (take-suc-set d i (getD s i 0) h ∙ ap (λ t. t ++ (getD s i 0 ∷ [])) e ∙ sym (take-suc s i 0 k))
 
 abbrev Inv-loop : tie.InvT-loop
-Inv-loop source bytes₀ i₀ bytes i = (i ≤ recordLength) × (length bytes ≡ recordLength) × (take i bytes ≡ take i source)
+Inv-loop source bytes₀ i₀ bytes i = (i ≤ length source) × (length source ≡ length bytes) × (take i bytes ≡ take i source)
 
 abbrev μ-loop : tie.MeasureT-loop
-μ-loop source bytes₀ i₀ bytes i = recordLength - i
+μ-loop source bytes₀ i₀ bytes i = length source - i
 
 loop-holds : tie.Need-loop-holds Inv-loop μ-loop
-loop-holds c = (omega arith, c .pre .1, refl)
+loop-holds c = (omega arith, c .pre, refl)
 
 shared-slice-read-bytes : tie.Need-shared-slice-read-bytes Inv-loop μ-loop
 shared-slice-read-bytes c = omega arith

@@ -1,0 +1,139 @@
+-- The answers of reading a file and of writing a header, way by way, and what an accepted header says.
+--     too-short, header-..      the header's checks
+--     HeaderHeld, header-held   what an accepted header says of the file
+--     wrong-length, records-..  the checks of the records
+--     after, long, judged, allowed   the answer of a write, and the buffer that goes with it
+-- Assumes nothing.
+use Prim.Native.Nat.{ℕ, _+_, _*_, _≤_, _<_}
+use mathlib.Core.Path.{_≡_, refl, ap, subst, _∙_}
+use mathlib.Core.Bool.{Bool, true, false, not}
+use mathlib.Core.List.{List}
+use borrow.Author.Tests.{eq-eqb, ne-eqb, eqb-true, lt-ltb, le-ltb, ltb-false, not-false}
+use lib.Dec.{ltb, eqb}
+use lib.IntN.{natAbs}
+use lib.ListN.{length, take}
+use Rattle.refusal.specs.Refused.{Answer, result, refused, refuseIf, andThen}
+use Rattle.refusal.proofs.Answers.{passed, went-on, same-result, same-refusal, not-refused}
+use Rattle.particle.specs.Record.{keptUnless}
+use Rattle.particles.specs.Set.{setOf, totalsOf}
+use Rattle.particles.specs.Walk.{walked}
+use Rattle.particles.specs.declared.Totals.{Totals}
+use Rattle.bath_file.specs.declared.Header.{Header}
+use Rattle.bath_file.specs.Layout.{headerLength, held, spare}
+use Rattle.bath_file.specs.File.{headerIn, headerOf, checkedHeader, headerAnswer, recordsAnswer, writeAnswer, written}
+use Rattle.bath_file.proofs.Checks.{Valid, valid, passes, refuses}
+
+-- ---- the header
+
+module _ (bytes : List ℕ) where
+  abbrev first : List ℕ
+  first = take headerLength bytes
+
+  abbrev spareIn : ℕ
+  spareIn = natAbs (held spare first)
+
+  abbrev afterValues : Answer Header
+  afterValues = refuseIf (not (eqb spareIn 0)) 16 0 (result (headerIn first))
+
+  pub too-short : length bytes < headerLength → headerAnswer bytes ≡ refused 1 0
+  unfolding headerAnswer
+  too-short h = rw (lt-ltb (length bytes) headerLength h)
+
+  long-enough : headerLength ≤ length bytes → headerAnswer bytes ≡ checkedHeader (headerIn first) afterValues
+  unfolding headerAnswer
+  long-enough h = rw (le-ltb (length bytes) headerLength h)
+
+  -- the code checks the values by themselves
+  abbrev Checked : Answer Header → Type 0
+  Checked a = checkedHeader (headerIn first) (result (headerIn first)) ≡ a
+
+  pub header-refused : headerLength ≤ length bytes → {n k : ℕ} → Checked (refused n k) → headerAnswer bytes ≡ refused n k
+  header-refused h e = long-enough h ∙ refuses (headerIn first) (headerIn first) afterValues e
+
+  spare-decides : headerLength ≤ length bytes → {g : Header} → Checked (result g) → headerAnswer bytes ≡ afterValues
+  spare-decides h e = long-enough h ∙ passes (headerIn first) afterValues (valid (headerIn first) (result (headerIn first)) e .0)
+
+  pub header-spare : headerLength ≤ length bytes → {g : Header} → Checked (result g) → (spareIn ≡ 0 → ⊥) → headerAnswer bytes ≡ refused 16 0
+  header-spare h e s = spare-decides h e ∙ ap (λ b. refuseIf (not b) 16 0 (result (headerIn first))) (ne-eqb spareIn 0 s)
+
+  pub header-accepted : headerLength ≤ length bytes → {g : Header} → Checked (result g) → spareIn ≡ 0 → headerAnswer bytes ≡ result g
+  header-accepted h e s =
+      spare-decides h e
+      ∙ ap (λ b. refuseIf (not b) 16 0 (result (headerIn first))) (eq-eqb spareIn 0 s)
+      ∙ valid (headerIn first) (result (headerIn first)) e .1
+
+  pub record HeaderHeld (h : Header) : Type 0 where
+    pub long : headerLength ≤ length bytes
+    pub holds : headerIn first ≡ h
+    pub valid : Valid h
+    pub spare-zero : spareIn ≡ 0
+
+  pub header-held : {h : Header} → headerAnswer bytes ≡ result h → HeaderHeld h
+  unfolding headerAnswer
+  header-held e =
+      let l = passed (ltb (length bytes) headerLength) 1 0 _ e in
+      let v = valid (headerIn first) afterValues (l .1) in
+      let s = passed (not (eqb spareIn 0)) 16 0 _ (v .1) in
+      record {
+        long = ltb-false (length bytes) headerLength (l .0);
+        holds = same-result (s .1);
+        valid = subst Valid (same-result (s .1)) (v .0);
+        spare-zero = eqb-true spareIn 0 (not-false (eqb spareIn 0) (s .0));
+      }
+
+-- ---- the records
+
+module _ (h : Header) (bytes : List ℕ) where
+  abbrev fileLength : ℕ
+  fileLength = 9 + 14 * h .count
+
+  abbrev set : Answer Header
+  set = andThen (setOf (h .nx) (h .ny) headerLength bytes (h .count)) (λ _. result h)
+
+  pub wrong-length : (length bytes ≡ fileLength → ⊥) → recordsAnswer h bytes ≡ refused 1 0
+  unfolding recordsAnswer
+  wrong-length n = rw (ne-eqb (length bytes) fileLength n)
+
+  pub right-length : length bytes ≡ fileLength → recordsAnswer h bytes ≡ set
+  unfolding recordsAnswer
+  right-length n = rw (eq-eqb (length bytes) fileLength n)
+
+  pub records-accepted : length bytes ≡ fileLength → {t : Totals} → walked (h .nx) (h .ny) headerLength bytes (h .count) ≡ result t → recordsAnswer h bytes ≡ result h
+  records-accepted n e =
+      let w = went-on (setOf (h .nx) (h .ny) headerLength bytes (h .count)) _ e in
+      right-length n ∙ ap (λ a. andThen a (λ _. result h)) (w .1)
+
+  pub records-refused : length bytes ≡ fileLength → {n k : ℕ} → walked (h .nx) (h .ny) headerLength bytes (h .count) ≡ refused n k → recordsAnswer h bytes ≡ refused n k
+  records-refused n e = right-length n ∙ go (setOf (h .nx) (h .ny) headerLength bytes (h .count)) totalsOf e
+    where
+      go : {A B : Type 0} (a : Answer A) (f : A → B) {n k : ℕ} → andThen a (λ x. result (f x)) ≡ refused n k → andThen a (λ _. result h) ≡ refused n k
+      go (result x) f e = not-refused e
+      go (refused m j) f e = same-refusal e
+
+-- ---- writing
+
+module _ (h : Header) (bytes : List ℕ) where
+  -- the buffer follows from the answer
+  pub after : {a : Answer Unit} → writeAnswer h bytes ≡ a → written h bytes ≡ keptUnless a (headerOf h) bytes
+  unfolding written
+  after e = ap (λ a. keptUnless a (headerOf h) bytes) e
+
+  pub long : (length bytes ≡ headerLength → ⊥) → writeAnswer h bytes ≡ refused 1 0
+  unfolding writeAnswer
+  long n = rw (ne-eqb (length bytes) headerLength n)
+
+  judged : length bytes ≡ headerLength → writeAnswer h bytes ≡ checkedHeader h (result tt)
+  unfolding writeAnswer
+  judged n = rw (eq-eqb (length bytes) headerLength n)
+
+  pub write-refused : length bytes ≡ headerLength → {n k : ℕ} → checkedHeader h (result h) ≡ refused n k → writeAnswer h bytes ≡ refused n k
+  write-refused n e = judged n ∙ refuses h h (result tt) e
+
+  pub write-accepted : length bytes ≡ headerLength → Valid h → writeAnswer h bytes ≡ result tt
+  write-accepted n v = judged n ∙ passes h (result tt) v
+
+  pub allowed : writeAnswer h bytes ≡ result tt → (length bytes ≡ headerLength) × Valid h
+  unfolding writeAnswer
+  allowed e =
+      let l = passed (not (eqb (length bytes) headerLength)) 1 0 _ e in
+      (eqb-true (length bytes) headerLength (not-false (eqb (length bytes) headerLength) (l .0)), valid h (result tt) (l .1) .0)

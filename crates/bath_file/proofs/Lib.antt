@@ -1,0 +1,7 @@
+pub mod Fields
+pub mod Bytes
+pub mod Checks
+pub mod Answers
+pub mod RoundTrip
+pub mod Records
+pub mod Example

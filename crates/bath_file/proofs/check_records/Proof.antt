@@ -1,0 +1,52 @@
+-- `check_records` meets its contract: the length, and then the walk over the set. Assumes nothing.
+use borrow.Author.Needs.{needs}
+use native.Mathlib.Omega.{arith}
+use mathlib.Core.Path.{sym, ap, _∙_}
+use denote.Ref.{now}
+use Rattle.refusal.specs.Refused.{result}
+use Rattle.particles.specs.Set.{toldTotalled}
+use Rattle.particles.proofs.Checks.{size-limits}
+use Rattle.bath_file.proofs.Checks.{Valid, valid}
+use Rattle.bath_file.proofs.Answers.{wrong-length, records-accepted, records-refused}
+use Rattle.bath_file.proofs.check_records.Statement.{statement}
+use Rattle.bath_file.proofs.check_records.Tie as tie
+
+accepted : (c : tie.Start) → Valid (c .args .h)
+accepted c = valid (c .args .h) (result (c .args .h)) (c .pre) .0
+
+mul-if1 : tie.Need-mul-if1
+mul-if1 c = omega (arith, accepted (c .before) .count-to)
+
+add-if1 : tie.Need-add-if1
+add-if1 c = omega (arith, accepted (c .before) .count-to)
+
+returns : tie.Need-returns
+returns c = sym (wrong-length (c .before .before .args .h) (now (c .before .before .args .bytes)) (c .if1 .taken))
+
+walk-requires : tie.Need-walk-requires
+walk-requires c κs = (size-limits _ _ (accepted (c .before .before) .size), accepted (c .before .before) .count-to, omega arith)
+
+enum-told : tie.Need-enum-told
+enum-told c = search needs
+
+enum-known-refusal : tie.Need-enum-known-refusal
+enum-known-refusal c = search needs
+
+returns-2 : tie.Need-returns-2
+returns-2 c = sym (records-accepted (c .before .before .before .before .before .args .h) (now (c .before .before .before .before .before .args .bytes)) (c .before .before .before .if1 .left) (sym (c .before .before .walk .ensures) ∙ ap toldTotalled (c .enum-told .given .1)))
+
+returns-3 : tie.Need-returns-3
+returns-3 c = sym (records-refused (c .before .before .before .before .before .before .args .h) (now (c .before .before .before .before .before .before .args .bytes)) (c .before .before .before .before .if1 .left) (sym (c .before .before .before .walk .ensures) ∙ ap toldTotalled (c .before .refusal .given .1)))
+
+pub check-records-spec : {M : Type 1} → statement M
+check-records-spec =
+    tie.close
+    (tie.spec
+    mul-if1
+    add-if1
+    returns
+    walk-requires
+    enum-told
+    enum-known-refusal
+    returns-2
+    returns-3)

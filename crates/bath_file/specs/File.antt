@@ -1,0 +1,97 @@
+-- Document 01, "Read a file": its answer for any bytes; and writing a header: its answer, and the buffer that it leaves.
+-- Assumes nothing.
+use Prim.Native.Nat.{ℕ, _+_, _*_}
+use mathlib.Core.Bool.{Bool, not, _&&_}
+use mathlib.Core.List.{List}
+use lib.Dec.{ltb, eqb}
+use lib.IntN.{ℤ, pos, negℤ, natAbs}
+use lib.ListN.{length, take}
+use Rattle.refusal.specs.Refused.{Answer, result, refusedBy, refuseIf, andThen}
+use Rattle.particle.specs.Layout.{recordLength}
+use Rattle.particle.specs.Record.{between, keptUnless}
+use Rattle.particles.specs.Set.{validSize, setOf}
+use Rattle.bath_file.specs.declared.Header.{Header}
+use Rattle.bath_file.specs.declared.FileRead.{FileRead}
+use Rattle.bath_file.specs.declared.FileRead.the-variants as read
+use Rattle.bath_file.specs.declared.HeaderWritten.{HeaderWritten}
+use Rattle.bath_file.specs.declared.HeaderWritten.the-variants as write
+use Rattle.bath_file.specs.Layout.{Name, nx, ny, gx, gy, count, steps, spare, headerLength, held, packed}
+
+-- the header that nine bytes hold
+unfoldable pub headerIn : List ℕ → Header
+headerIn bytes =
+    record {
+      nx = natAbs (held nx bytes);
+      ny = natAbs (held ny bytes);
+      gx = held gx bytes;
+      gy = held gy bytes;
+      count = natAbs (held count bytes);
+      steps = natAbs (held steps bytes);
+    }
+
+abbrev pub valueIn : Header → Name → ℤ
+valueIn h nx = pos (h .nx)
+valueIn h ny = pos (h .ny)
+valueIn h gx = h .gx
+valueIn h gy = h .gy
+valueIn h count = pos (h .count)
+valueIn h steps = pos (h .steps)
+valueIn h spare = pos 0
+
+-- the nine bytes that hold a header
+unfoldable pub headerOf : Header → List ℕ
+headerOf h = packed (valueIn h)
+
+-- ---- the limits of "Records"
+
+-- −4096 to 4096
+abbrev pub validGravity : ℤ → Bool
+validGravity g = between (negℤ (pos 4096)) (pos 4096) g
+
+-- 2 Nx or Ny out of range; 10 gravity out of range; 3 count above 4096; 17 steps above 10,000; and then the rest of a list
+unfoldable pub checkedHeader : {A : Type 0} → Header → Answer A → Answer A
+checkedHeader h rest =
+    refuseIf (not (validSize (h .nx) (h .ny))) 2 0
+    (refuseIf (not (validGravity (h .gx) && validGravity (h .gy))) 10 0
+    (refuseIf (ltb 4096 (h .count)) 3 0
+    (refuseIf (ltb 10000 (h .steps)) 17 0
+    rest)))
+
+-- ---- "Read a file"
+
+-- 1 shorter than 9; 2; 10; 3; 17; 16 spare bits not zero
+unfoldable pub headerAnswer : List ℕ → Answer Header
+headerAnswer bytes =
+    let first = take headerLength bytes in
+    refuseIf (ltb (length bytes) headerLength) 1 0
+    (checkedHeader (headerIn first)
+    (refuseIf (not (eqb (natAbs (held spare first)) 0)) 16 0
+    (result (headerIn first))))
+
+-- 1 length not 9 + 14·count; then the set, whose records lie from byte 9 on
+unfoldable pub recordsAnswer : Header → List ℕ → Answer Header
+recordsAnswer h bytes =
+    refuseIf (not (eqb (length bytes) (headerLength + recordLength * h .count))) 1 0
+    (andThen (setOf (h .nx) (h .ny) headerLength bytes (h .count)) (λ _. result h))
+
+-- the whole list; the result is the header's values
+abbrev pub fileAnswer : List ℕ → Answer Header
+fileAnswer bytes = andThen (headerAnswer bytes) (λ h. recordsAnswer h bytes)
+
+abbrev pub toldRead : FileRead → Answer Header
+toldRead (read.Accepted h) = result h
+toldRead (read.Refused e) = refusedBy e
+
+-- ---- writing a header
+
+-- 1 length not 9; 2; 10; 3; 17
+unfoldable pub writeAnswer : Header → List ℕ → Answer Unit
+writeAnswer h bytes = refuseIf (not (eqb (length bytes) headerLength)) 1 0 (checkedHeader h (result tt))
+
+-- the buffer afterwards: the header where the answer is a result, and else what it was
+unfoldable pub written : Header → List ℕ → List ℕ
+written h bytes = keptUnless (writeAnswer h bytes) (headerOf h) bytes
+
+abbrev pub toldWritten : HeaderWritten → Answer Unit
+toldWritten write.Done = result tt
+toldWritten (write.Refused e) = refusedBy e

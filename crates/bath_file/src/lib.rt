@@ -1,0 +1,187 @@
+// A bath file: a header of 9 bytes, then particle records. It is read and checked, and a header is written.
+use particle::RECORD_LENGTH;
+use particle::bits;
+use particle::limits;
+use particles::Totalled;
+use refusal::Refusal;
+ghost use mathlib.Core.Path.{_≡_};
+ghost use mathlib.Core.List.{[], _∷_};
+ghost use lib.IntN.{natAbs};
+ghost use lib.ListN.{length};
+ghost use Rattle.refusal.specs.Refused.{result};
+ghost use Rattle.particle.specs.Bits.{cut, join, widths};
+ghost use Rattle.particle.specs.Internal.{Below};
+ghost use Rattle.bath_file.specs.Layout.{layout, byteWidths, headerLength, spare, held};
+ghost use Rattle.bath_file.specs.File.{headerIn, headerOf, checkedHeader, headerAnswer, recordsAnswer, fileAnswer, writeAnswer, written, toldRead, toldWritten};
+
+// The length of a header in bytes.
+pub const HEADER_LENGTH: usize = 9;
+
+// The largest number of records in a file.
+pub const MOST_RECORDS: usize = 4096;
+
+// The largest number of steps.
+pub const MOST_STEPS: usize = 10000;
+
+const LEAST_GRAVITY: i16 = -4096;
+
+const MOST_GRAVITY: i16 = 4096;
+
+// The grid's size in nodes, gravity in 256ths of a velocity unit per step, the number of records and the number of steps.
+pub struct Header {
+    pub nx: usize,
+    pub ny: usize,
+    pub gx: i16,
+    pub gy: i16,
+    pub count: usize,
+    pub steps: usize,
+}
+
+pub enum FileRead {
+    Accepted(Header),
+    Refused(Refusal),
+}
+
+pub enum HeaderWritten {
+    Done,
+    Refused(Refusal),
+}
+
+// The header that nine bytes hold. `read_header` calls it with as many.
+fn unpack(bytes: &[u8]) -> Header
+    requires { ⌜ length (now bytes) ≡ headerLength ⌝ }
+    ensures { λ r. ⌜ r ≡ headerIn (now (bytes .entry)) ⌝ }
+{
+    Header {
+        nx: bits::unsigned(bytes, 0, 262144, 64) as usize,
+        ny: bits::unsigned(bytes, 0, 4096, 64) as usize,
+        gx: bits::signed(bytes, 1, 64, 8192),
+        gy: bits::signed(bytes, 3, 256, 8192),
+        count: bits::unsigned(bytes, 5, 2048, 8192) as usize,
+        steps: bits::unsigned(bytes, 6, 32, 16384) as usize,
+    }
+}
+
+// The spare bits of nine bytes, as a number. `read_header` calls it with as many.
+fn spare_bits(bytes: &[u8]) -> u16
+    requires { ⌜ length (now bytes) ≡ headerLength ⌝ }
+    ensures { λ r. ⌜ r ≡ natAbs (held spare (now (bytes .entry))) ⌝ }
+{
+    bits::unsigned(bytes, 6, 1, 32)
+}
+
+// The answer for a header's values, read or to be written.
+fn check_values(h: Header) -> FileRead
+    ensures { λ r. ⌜ toldRead r ≡ checkedHeader h (result h) ⌝ }
+{
+    if !particles::size_is_valid(h.nx, h.ny) {
+        return FileRead::Refused(Refusal::GridSize);
+    }
+    if !limits::both_between(h.gx, h.gy, LEAST_GRAVITY, MOST_GRAVITY) {
+        return FileRead::Refused(Refusal::Gravity);
+    }
+    if MOST_RECORDS < h.count {
+        return FileRead::Refused(Refusal::Count);
+    }
+    if MOST_STEPS < h.steps {
+        return FileRead::Refused(Refusal::Steps);
+    }
+    FileRead::Accepted(h)
+}
+
+// The header of a file of any length, without its records.
+pub fn read_header(bytes: &[u8]) -> FileRead
+    ensures { λ r. ⌜ toldRead r ≡ headerAnswer (now (bytes .entry)) ⌝ }
+{
+    if bytes.len() < HEADER_LENGTH {
+        return FileRead::Refused(Refusal::Length);
+    }
+    let header = &bytes[..HEADER_LENGTH];
+    match check_values(unpack(header)) {
+        FileRead::Refused(refusal) => FileRead::Refused(refusal),
+        FileRead::Accepted(h) => {
+            if spare_bits(header) != 0 {
+                return FileRead::Refused(Refusal::SpareBits);
+            }
+            FileRead::Accepted(h)
+        }
+    }
+}
+
+// The answer for a file with this header: its length, and then its records. `read_file` calls it.
+fn check_records(h: Header, bytes: &[u8]) -> FileRead
+    requires { ⌜ checkedHeader h (result h) ≡ result h ⌝ }
+    ensures { λ r. ⌜ toldRead r ≡ recordsAnswer h (now (bytes .entry)) ⌝ }
+{
+    let count = h.count;
+    if bytes.len() != HEADER_LENGTH + RECORD_LENGTH * count {
+        return FileRead::Refused(Refusal::Length);
+    }
+    match particles::walk(h.nx, h.ny, bytes, HEADER_LENGTH, count) {
+        Totalled::Sums(_) => FileRead::Accepted(h),
+        Totalled::Refused(refusal) => FileRead::Refused(refusal),
+    }
+}
+
+// Read a file: any bytes. The result is the header's values, and the records lie from byte 9 on.
+pub fn read_file(bytes: &[u8]) -> FileRead
+    ensures { λ r. ⌜ toldRead r ≡ fileAnswer (now (bytes .entry)) ⌝ }
+{
+    match read_header(bytes) {
+        FileRead::Refused(refusal) => FileRead::Refused(refusal),
+        FileRead::Accepted(h) => check_records(h, bytes),
+    }
+}
+
+// The bytes of a header with these parts in its fields, and no spare bit set. `pack` calls it with parts that the fields hold.
+fn bytes_of(nx: u16, ny: u16, gx: u16, gy: u16, count: u16, steps: u16) -> [u8; HEADER_LENGTH]
+    requires { ⌜ Below (widths layout) (nx ∷ ny ∷ gx ∷ gy ∷ count ∷ steps ∷ 0 ∷ []) ⌝ }
+    ensures { λ r. ⌜ r ≡ cut byteWidths (join (widths layout) (nx ∷ ny ∷ gx ∷ gy ∷ count ∷ steps ∷ 0 ∷ [])) ⌝ }
+{
+    [
+        bits::byte(nx, 4, ny, 16),
+        bits::byte(ny, 16, gx, 1024),
+        bits::byte(0, 1, gx, 4),
+        bits::byte(gx, 64, gy, 256),
+        bits::byte(0, 1, gy, 1),
+        bits::byte(0, 1, count, 32),
+        bits::byte(count, 8, steps, 2048),
+        bits::byte(0, 1, steps, 8),
+        bits::byte(steps, 32, 0, 1),
+    ]
+}
+
+// The nine bytes that hold a header. `write_header` calls it with a header that it accepts.
+fn pack(h: Header) -> [u8; HEADER_LENGTH]
+    requires { ⌜ checkedHeader h (result h) ≡ result h ⌝ }
+    ensures { λ r. ⌜ r ≡ headerOf h ⌝ }
+{
+    let gx = bits::residue(h.gx, 16384);
+    let gy = bits::residue(h.gy, 16384);
+    bytes_of(
+        h.nx as u16,
+        h.ny as u16,
+        gx,
+        gy,
+        h.count as u16,
+        h.steps as u16,
+    )
+}
+
+// Write a header: any numbers, any buffer. A refused call leaves the buffer as it was.
+pub fn write_header(h: Header, bytes: &mut [u8]) -> HeaderWritten
+    ensures answer { λ r. ⌜ toldWritten r ≡ writeAnswer h (now (bytes .entry)) ⌝ }
+    ensures buffer { λ _. ⌜ now (bytes .exit) ≡ written h (now (bytes .entry)) ⌝ }
+{
+    if bytes.len() != HEADER_LENGTH {
+        return HeaderWritten::Refused(Refusal::Length);
+    }
+    match check_values(h) {
+        FileRead::Refused(refusal) => HeaderWritten::Refused(refusal),
+        FileRead::Accepted(accepted) => {
+            let packed = pack(accepted);
+            particle::store(&packed, bytes);
+            HeaderWritten::Done
+        }
+    }
+}
