@@ -1,3 +1,4 @@
 pub mod Step
 pub mod Run
 pub mod Demand3
+pub mod Examples
