@@ -1,7 +1,8 @@
 -- The walk over the nodes: what one node's check tells of its limits, and the group of all nodes.
 --     node-heavy, node-fast, node-passes   what a node's check answers, by its tests
 --     node-limits, limits-pass             a node passes where it keeps the limits, and only there
---     each-end                             a group at its end
+--     each-end, each-turn                  a group at its end, and its next place
+--     pass-each                            each place of a group that passes
 --     nodes-limits, limits-nodes           as node-limits and limits-pass, for all nodes
 --     walk-start, walk-on, walk-ends       the walk from a node on
 -- Assumes nothing.
@@ -108,7 +109,7 @@ module _ (check : ℕ → Answer Unit) where
       none : n - k ≡ zero
       none = omega arith
 
-  each-turn : (k n : ℕ) → k < n → forEach check k (n - k) ≡ andThen (check k) (λ _. forEach check (k + 1) (n - (k + 1)))
+  pub each-turn : (k n : ℕ) → k < n → forEach check k (n - k) ≡ andThen (check k) (λ _. forEach check (k + 1) (n - (k + 1)))
   each-turn k n h = ap (λ m. forEach check k m) next ∙ ap (λ j. andThen (check k) (λ _. forEach check j (n - (k + 1)))) (sym (add-one k))
     where
       next : n - k ≡ suc (n - (k + 1))
@@ -120,7 +121,7 @@ module _ (check : ℕ → Answer Unit) where
       ap (λ a. andThen a (λ _. forEach check (suc i) n)) (ap check (sym (add-zero i)) ∙ h zero (omega arith))
       ∙ each-pass (suc i) n (λ k l. ap check (suc-add i k ∙ sym (add-suc i k)) ∙ h (suc k) (omega arith))
 
-  pass-each : (i n : ℕ) → forEach check i n ≡ done → (k : ℕ) → k < n → check (i + k) ≡ done
+  pub pass-each : (i n : ℕ) → forEach check i n ≡ done → (k : ℕ) → k < n → check (i + k) ≡ done
   pass-each i zero e k h = absurd (not-suc-le-zero h)
   pass-each i (suc n) e zero h = ap check (add-zero i) ∙ went-on (check i) (λ _. forEach check (suc i) n) e .1
   pass-each i (suc n) e (suc k) h =

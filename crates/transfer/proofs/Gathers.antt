@@ -1,0 +1,162 @@
+-- Gather: from the accepted set to the moved records.
+--     gatherable, packable, as-long     what the core and the packing ask
+--     refused-moves, done-moves     what is left after the core's answer
+--     bad-entry, by-velocities      the checks before any particle moves, by their parts
+--     stopped, gather-set, moved-on     the operation, by those checks
+-- Assumes nothing.
+use mathlib.Core.Path.{_≡_, refl, sym, ap, _∙_, subst}
+use mathlib.Core.Bool.{Bool, true, false, _&&_}
+use mathlib.Core.List.{List, map}
+use Prim.Native.Nat.{ℕ, _*_, _/_}
+use native.Mathlib.Omega.{arith}
+use lib.Dec.{eqb}
+use lib.ListN.{length, length-map}
+use lib.IntN.{ℤ}
+use borrow.Author.Tests.{eqb-true}
+use Rattle.refusal.specs.Refused.{Answer, result, refused, andThen}
+use Rattle.refusal.proofs.Answers.{went-on}
+use Rattle.spline.specs.Answers.{table}
+use Rattle.particle.specs.declared.Particle.{Particle}
+use Rattle.particles.specs.Set.{recordCount, recordsOf, particlesIn}
+use Rattle.particles.proofs.Checks.{length-limits, entered}
+use Rattle.unpacked.specs.Unpacked.{unpacked, particlesOf, UnpackedSet}
+use Rattle.unpacked.proofs.Laws.{length-unpacked, particlesOf-unpacked}
+use Rattle.packing.specs.Packing.{Packable}
+use Rattle.packing.proofs.Sets.{count-in, unpacked-accepted, particlesIn-accepted}
+use Rattle.gather_core.specs.declared.Gathered.{Gathered}
+use Rattle.gather_core.specs.Gather.{gathered, moveChecks, toldGathered, Gatherable, Gathers}
+use Rattle.gather_core.proofs.Checks.{follow, checks-follow}
+use Rattle.gather_core.proofs.Kept.{target-set}
+use Rattle.update.specs.Checks.{lengthsAre, done}
+use Rattle.update.proofs.Walk.{and-true}
+use Rattle.transfer.specs.Transfer.{toldOf, entryAnswer, velocityChecks, checkedSet, moveAnswer, gatherAnswer, Moves}
+use Rattle.transfer.specs.Internal.{GatherSet}
+use Rattle.transfer.proofs.Entry.{accepted}
+use Rattle.transfer.proofs.Velocities.{node-velocities}
+
+refused-is : {a : Answer (List Particle)} (records : List ℕ) {n k : ℕ} → a ≡ refused n k → Moves a records (refused n k) records
+refused-is records {n} {k} e = subst (λ a. Moves a records (refused n k) records) (sym e) (record { answer = refl; records-are = refl })
+
+-- ---- the accepted set, by the core
+
+numbers-in : (records : List ℕ) → length (unpacked (particlesIn records)) ≡ 10 * recordCount records
+numbers-in records = length-unpacked (particlesIn records) ∙ ap (λ n. 10 * n) (count-in records)
+
+module _ {nx ny : ℕ} {records : List ℕ} {ux uy source : List ℤ} (s : GatherSet nx ny records ux uy) (e : source ≡ unpacked (particlesIn records)) where
+  source-set : UnpackedSet nx ny source
+  source-set = subst (UnpackedSet nx ny) (sym e) (unpacked-accepted nx ny records (s .set))
+
+  source-is : particlesOf source ≡ particlesIn records
+  source-is = ap particlesOf e ∙ particlesOf-unpacked (particlesIn records)
+
+  pub gatherable : {weights : List (List ℕ)} {target : List ℤ} → weights ≡ table → length target ≡ 10 * recordCount records → Gatherable nx ny source weights ux uy target
+  gatherable t h =
+      record {
+        particles = source-set;
+        weights-are = t;
+        x-velocities = s .x-velocities;
+        y-velocities = s .y-velocities;
+        room = h ∙ sym (ap length e ∙ numbers-in records);
+      }
+
+  module _ {target : List ℤ} {r : Gathered} (g : Gathers nx ny source ux uy target r) where
+    told : moveAnswer nx ny ux uy (particlesIn records) ≡ follow (toldGathered r) (result (map (gathered nx ny ux uy) (particlesIn records)))
+    told =
+        checks-follow nx ny (gathered nx ny ux uy) 0 (particlesIn records) (result (map (gathered nx ny ux uy) (particlesIn records)))
+        ∙ ap (λ a. follow a (result (map (gathered nx ny ux uy) (particlesIn records))))
+        (ap (λ ps. moveChecks nx ny (gathered nx ny ux uy) 0 ps (result tt)) (sym source-is) ∙ sym (g .answer))
+
+    pub refused-moves : {n k : ℕ} → toldGathered r ≡ refused n k → Moves (moveAnswer nx ny ux uy (particlesIn records)) records (refused n k) records
+    refused-moves h = refused-is records (told ∙ ap (λ a. follow a (result (map (gathered nx ny ux uy) (particlesIn records)))) h)
+
+    module _ (h : toldGathered r ≡ done) where
+      pub packable : Packable target
+      packable = record { nx = nx; ny = ny; set = target-set g h source-set }
+
+      target-is : target ≡ unpacked (map (gathered nx ny ux uy) (particlesIn records))
+      target-is = g .particles h ∙ ap (λ ps. unpacked (map (gathered nx ny ux uy) ps)) source-is
+
+      pub as-long : length records ≡ 14 * (length target / 10)
+      as-long = count (length-limits (length records) (entered nx ny records (s .set) .whole) .whole) numbers
+        where
+          numbers : length target ≡ 10 * recordCount records
+          numbers =
+              ap length target-is
+              ∙ length-unpacked (map (gathered nx ny ux uy) (particlesIn records))
+              ∙ ap (λ n. 10 * n) (length-map (particlesIn records) (gathered nx ny ux uy) ∙ count-in records)
+
+          count : 14 * (length records / 14) ≡ length records → length target ≡ 10 * (length records / 14) → length records ≡ 14 * (length target / 10)
+          count a b = omega arith
+
+      pub done-moves : {records′ : List ℕ} → records′ ≡ recordsOf (particlesOf target) → Moves (moveAnswer nx ny ux uy (particlesIn records)) records done records′
+      done-moves {records′} w =
+          subst (λ a. Moves a records done records′)
+          (sym (told ∙ ap (λ a. follow a (result (map (gathered nx ny ux uy) (particlesIn records)))) h))
+          (record {
+            answer = refl;
+            records-are = w ∙ ap recordsOf (ap particlesOf target-is ∙ particlesOf-unpacked (map (gathered nx ny ux uy) (particlesIn records)));
+          })
+
+-- ---- the checks before any particle moves
+
+twice : (n a b : ℕ) → lengthsAre n a a b ≡ eqb a n && eqb b n
+twice n a b = go (eqb a n)
+  where
+    go : (t : Bool) → t && (t && eqb b n) ≡ t && eqb b n
+    go true = refl
+    go false = refl
+
+module _ (nx ny : ℕ) (records : List ℕ) (ux uy : List ℤ) where
+  entry-is : {a : Answer (List Particle)} → entryAnswer nx ny records (lengthsAre (nx * ny) (length ux) (length ux) (length uy)) ≡ a → entryAnswer nx ny records (eqb (length ux) (nx * ny) && eqb (length uy) (nx * ny)) ≡ a
+  entry-is e = ap (entryAnswer nx ny records) (sym (twice (nx * ny) (length ux) (length uy))) ∙ e
+
+  lengths-of : {ps : List Particle} → entryAnswer nx ny records (eqb (length ux) (nx * ny) && eqb (length uy) (nx * ny)) ≡ result ps → (length ux ≡ nx * ny) × (length uy ≡ nx * ny)
+  lengths-of e =
+      let b = and-true (eqb (length ux) (nx * ny)) (eqb (length uy) (nx * ny)) (accepted nx ny records (eqb (length ux) (nx * ny) && eqb (length uy) (nx * ny)) e .0) in
+      (eqb-true (length ux) (nx * ny) (b .0), eqb-true (length uy) (nx * ny) (b .1))
+
+  pub bad-entry : {n k : ℕ} → entryAnswer nx ny records (lengthsAre (nx * ny) (length ux) (length ux) (length uy)) ≡ refused n k → checkedSet nx ny records ux uy ≡ refused n k
+  unfolding checkedSet
+  bad-entry e = ap (λ a. andThen a (λ ps. andThen (velocityChecks (nx * ny) ux uy) (λ _. result ps))) (entry-is e)
+
+  module _ {ps : List Particle} (e : entryAnswer nx ny records (lengthsAre (nx * ny) (length ux) (length ux) (length uy)) ≡ result ps) where
+    pub same-count : length uy ≡ length ux
+    same-count = let l = lengths-of (entry-is e) in l .1 ∙ sym (l .0)
+
+    pub by-velocities : toldOf (checkedSet nx ny records ux uy) ≡ velocityChecks (length ux) ux uy
+    unfolding checkedSet
+    by-velocities =
+        ap (λ a. toldOf (andThen a (λ ps. andThen (velocityChecks (nx * ny) ux uy) (λ _. result ps)))) (entry-is e)
+        ∙ plain (velocityChecks (nx * ny) ux uy)
+        ∙ ap (λ n. velocityChecks n ux uy) (sym (lengths-of (entry-is e) .0))
+      where
+        plain : (a : Answer Unit) → toldOf (andThen a (λ _. result ps)) ≡ a
+        plain (result u) = refl
+        plain (refused n k) = refl
+
+  -- ---- the operation, by those checks
+
+  pub stopped : {n k : ℕ} → checkedSet nx ny records ux uy ≡ refused n k → Moves (gatherAnswer nx ny records ux uy) records (refused n k) records
+  stopped e = refused-is records (ap (λ a. andThen a (λ ps. moveAnswer nx ny ux uy ps)) e)
+
+  module _ {ps : List Particle} (e : checkedSet nx ny records ux uy ≡ result ps) where
+    pub gather-set : GatherSet nx ny records ux uy
+    unfolding checkedSet
+    gather-set =
+        let a = went-on (entryAnswer nx ny records (eqb (length ux) (nx * ny) && eqb (length uy) (nx * ny))) _ e in
+        let b = went-on (velocityChecks (nx * ny) ux uy) _ (a .2) in
+        let l = lengths-of (a .1) in
+        let v = node-velocities nx ny ux uy (l .0) (l .1) (b .1) in
+        record {
+          particles = ps;
+          set = accepted nx ny records (eqb (length ux) (nx * ny) && eqb (length uy) (nx * ny)) (a .1) .1 ∙ b .2;
+          x-velocities = v .0;
+          y-velocities = v .1;
+        }
+
+    pub moved-on : {t : Answer Unit} {records′ : List ℕ} → Moves (moveAnswer nx ny ux uy (particlesIn records)) records t records′ → Moves (gatherAnswer nx ny records ux uy) records t records′
+    unfolding gather-set
+    moved-on {t} {records′} m =
+        subst (λ b. Moves b records t records′)
+        (ap (moveAnswer nx ny ux uy) (particlesIn-accepted nx ny records (gather-set .set)) ∙ sym (ap (λ b. andThen b (λ qs. moveAnswer nx ny ux uy qs)) e))
+        m

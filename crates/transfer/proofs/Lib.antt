@@ -1,0 +1,4 @@
+pub mod Entry
+pub mod Scatters
+pub mod Velocities
+pub mod Gathers

@@ -1,0 +1,75 @@
+//! Bath files: a 9-byte header, then the records.
+
+use crate::bits::{pack, unpack, Field};
+use crate::grid::{Settings, Size};
+use crate::limits::{HEADER_LENGTH, MAX_RECORDS, MAX_STEPS, RECORD_LENGTH};
+use crate::particle_set::walk;
+use crate::refusal::{require, Refusal, COUNT, LENGTH, SPARE, STEPS};
+
+/// The fields of the header in their order.
+pub const LAYOUT: [Field; 7] = [
+    Field::unsigned("Nx", 6),
+    Field::unsigned("Ny", 6),
+    Field::signed("gx", 14),
+    Field::signed("gy", 14),
+    Field::unsigned("count", 13),
+    Field::unsigned("steps", 14),
+    Field::unsigned("spare", 5),
+];
+
+/// The header's values.
+#[derive(Clone, Copy, Debug, PartialEq, Eq, Hash)]
+pub struct Header {
+    /// Grid size and gravity.
+    pub settings: Settings,
+    /// Number of records.
+    pub count: i128,
+    /// Steps wanted.
+    pub steps: i128,
+}
+
+impl Header {
+    /// Refuses 2, 10, 3, 17 in this order.
+    fn check(&self) -> Result<(), Refusal> {
+        self.settings.size.check()?;
+        self.settings.check_gravity()?;
+        require((0..=MAX_RECORDS).contains(&self.count), COUNT, 0)?;
+        require((0..=MAX_STEPS).contains(&self.steps), STEPS, 0)
+    }
+
+    /// The low bits of each field as 9 bytes, in range or not, with these spare bits.
+    pub fn pack(&self, spare: i128) -> [u8; HEADER_LENGTH] {
+        let Settings { size, gx, gy } = self.settings;
+        let fields = [size.nx, size.ny, gx, gy, self.count, self.steps, spare];
+        let mut bytes = [0; HEADER_LENGTH];
+        pack(&LAYOUT, &fields, &mut bytes);
+        bytes
+    }
+}
+
+/// Reads a file: the header's values. Refused: 1 shorter than 9; 2; 10; 3; 17; 16; 1 length not
+/// 9 + 14·count; then the set.
+pub fn read_file(file: &[u8]) -> Result<Header, Refusal> {
+    require(file.len() >= HEADER_LENGTH, LENGTH, 0)?;
+    let [nx, ny, gx, gy, count, steps, spare] = unpack(&LAYOUT, &file[..HEADER_LENGTH]);
+    let header = Header {
+        settings: Settings::new(Size::new(nx, ny), gx, gy),
+        count,
+        steps,
+    };
+    header.check()?;
+    require(spare == 0, SPARE, 0)?;
+    let length = HEADER_LENGTH + RECORD_LENGTH * count as usize;
+    require(file.len() == length, LENGTH, 0)?;
+    walk(header.settings.size, file, HEADER_LENGTH)?;
+    Ok(header)
+}
+
+/// Writes a header into the buffer, spare bits zero. Refused: 1 length not 9; 2; 10; 3; 17, and
+/// the buffer is as it was.
+pub fn write_header(header: &Header, buffer: &mut [u8]) -> Result<(), Refusal> {
+    require(buffer.len() == HEADER_LENGTH, LENGTH, 0)?;
+    header.check()?;
+    buffer.copy_from_slice(&header.pack(0));
+    Ok(())
+}

@@ -1,0 +1,129 @@
+//! The grid: its size, its settings and its buffers.
+
+use crate::limits::{MAX_GRAVITY, MAX_NODES, MIN_NODES, MIN_PLACE, SPACING};
+use crate::refusal::{require, within, Refusal, GRAVITY, LENGTH, SIZE};
+
+/// Number of nodes along each axis.
+#[derive(Clone, Copy, Debug, PartialEq, Eq, Hash)]
+pub struct Size {
+    /// Nodes along the x axis, 4 to 48.
+    pub nx: i128,
+    /// Nodes along the y axis, 4 to 48.
+    pub ny: i128,
+}
+
+impl Size {
+    /// A size of nx by ny nodes.
+    pub fn new(nx: i128, ny: i128) -> Self {
+        Size { nx, ny }
+    }
+
+    /// Refuses 2.
+    pub fn check(&self) -> Result<(), Refusal> {
+        let accepted = |nodes: i128| (MIN_NODES..=MAX_NODES).contains(&nodes);
+        require(accepted(self.nx) && accepted(self.ny), SIZE, 0)
+    }
+
+    /// Number of nodes of an accepted size.
+    pub fn nodes(&self) -> usize {
+        (self.nx * self.ny) as usize
+    }
+
+    /// The index of node (i, j).
+    pub fn index(&self, i: i128, j: i128) -> usize {
+        (j * self.nx + i) as usize
+    }
+
+    /// Whether a particle at (x, y) is on the grid.
+    pub fn holds(&self, x: i128, y: i128) -> bool {
+        let on_axis = |coordinate: i128, nodes: i128| {
+            MIN_PLACE <= coordinate && coordinate <= SPACING * (nodes - 1) - 33
+        };
+        on_axis(x, self.nx) && on_axis(y, self.ny)
+    }
+}
+
+/// What a step is given beside records and buffers: the size and gravity.
+#[derive(Clone, Copy, Debug, PartialEq, Eq, Hash)]
+pub struct Settings {
+    /// Nodes along each axis.
+    pub size: Size,
+    /// Gravity on the x axis, in 256ths, −4096 to 4096.
+    pub gx: i128,
+    /// Gravity on the y axis.
+    pub gy: i128,
+}
+
+impl Settings {
+    /// Settings with gravity (gx, gy).
+    pub fn new(size: Size, gx: i128, gy: i128) -> Self {
+        Settings { size, gx, gy }
+    }
+
+    /// Refuses 10.
+    pub fn check_gravity(&self) -> Result<(), Refusal> {
+        let accepted = within(self.gx, MAX_GRAVITY) && within(self.gy, MAX_GRAVITY);
+        require(accepted, GRAVITY, 0)
+    }
+}
+
+/// The caller's grid buffers: node masses, and node momenta or velocities per axis.
+#[derive(Debug, PartialEq, Eq)]
+pub struct GridBuffers<'a> {
+    /// Mass of each node.
+    pub mass: &'a mut [u64],
+    /// Momentum of each node on the x axis after a scatter; velocity after an update.
+    pub x: &'a mut [i64],
+    /// The same on the y axis.
+    pub y: &'a mut [i64],
+}
+
+impl GridBuffers<'_> {
+    /// Refuses 1 where a buffer is not Nx·Ny long.
+    pub(crate) fn check_lengths(&self, size: Size) -> Result<(), Refusal> {
+        let lengths = [self.mass.len(), self.x.len(), self.y.len()];
+        check_node_buffers(size, &lengths)
+    }
+}
+
+/// Refuses 1 where one of the lengths is not Nx·Ny.
+pub(crate) fn check_node_buffers(size: Size, lengths: &[usize]) -> Result<(), Refusal> {
+    let accepted = lengths.iter().all(|&length| length == size.nodes());
+    require(accepted, LENGTH, 0)
+}
+
+/// Grid buffers of one's own, of any lengths.
+#[derive(Clone, Debug, PartialEq, Eq, Hash)]
+pub struct Grid {
+    /// Mass of each node.
+    pub mass: Vec<u64>,
+    /// Momentum or velocity of each node on the x axis.
+    pub x: Vec<i64>,
+    /// The same on the y axis.
+    pub y: Vec<i64>,
+}
+
+impl Grid {
+    /// Buffers of this many nodes, all zero.
+    pub fn zero(nodes: usize) -> Self {
+        Grid::filled(nodes, 0, 0, 0)
+    }
+
+    /// Buffers of this many nodes that all hold the same mass and momenta.
+    pub fn filled(nodes: usize, mass: u64, x: i64, y: i64) -> Self {
+        Grid {
+            mass: vec![mass; nodes],
+            x: vec![x; nodes],
+            y: vec![y; nodes],
+        }
+    }
+
+    /// The buffers as slices, to hand to an operation.
+    pub fn buffers(&mut self) -> GridBuffers<'_> {
+        GridBuffers {
+            mass: &mut self.mass,
+            x: &mut self.x,
+            y: &mut self.y,
+        }
+    }
+}

@@ -1,0 +1,82 @@
+//! Particle sets: records one after another, and their totals.
+
+use crate::grid::Size;
+use crate::limits::{MAX_SET_LENGTH, MAX_TOTAL_MASS, RECORD_LENGTH};
+use crate::particle::{read_record, Particle};
+use crate::refusal::{require, Refusal, IDENTIFIER, LENGTH, PLACE, TOTAL_MASS};
+
+/// Refuses 1 where the length is not a multiple of 14 or above 57,344.
+pub(crate) fn check_length(records: &[u8]) -> Result<(), Refusal> {
+    let whole = records.len().is_multiple_of(RECORD_LENGTH);
+    require(whole && records.len() <= MAX_SET_LENGTH, LENGTH, 0)
+}
+
+/// The walk over the records from byte `start` on: the particles, or 4, 5, 6, 7, 8, 9 for the
+/// lowest record that is refused.
+pub(crate) fn walk(size: Size, bytes: &[u8], start: usize) -> Result<Vec<Particle>, Refusal> {
+    let mut particles: Vec<Particle> = Vec::new();
+    let mut mass = 0;
+    for (place, record) in bytes[start..].chunks(RECORD_LENGTH).enumerate() {
+        let particle = read_record(record).map_err(|refusal| Refusal::at(refusal.number, place))?;
+        require(size.holds(particle.x, particle.y), PLACE, place)?;
+        let rises = particles
+            .last()
+            .is_none_or(|before| particle.identifier > before.identifier);
+        require(rises, IDENTIFIER, place)?;
+        mass += particle.mass;
+        require(mass <= MAX_TOTAL_MASS, TOTAL_MASS, place)?;
+        particles.push(particle);
+    }
+    Ok(particles)
+}
+
+/// The particles of a set. Refused as check a set is.
+pub fn particles(size: Size, records: &[u8]) -> Result<Vec<Particle>, Refusal> {
+    size.check()?;
+    check_length(records)?;
+    walk(size, records, 0)
+}
+
+/// The records of particles, in range or not.
+pub fn pack_records(particles: &[Particle]) -> Vec<u8> {
+    particles.iter().flat_map(Particle::pack).collect()
+}
+
+/// Checks a set: the number of its records. Refused: 2, 1, then for each record 4 to 9.
+pub fn check_set(size: Size, records: &[u8]) -> Result<usize, Refusal> {
+    Ok(particles(size, records)?.len())
+}
+
+/// The sums over a set.
+#[derive(Clone, Copy, Debug, Default, PartialEq, Eq, Hash)]
+pub struct Totals {
+    /// Sum of m.
+    pub mass: i128,
+    /// Sum of m·vx.
+    pub px: i128,
+    /// Sum of m·vy.
+    pub py: i128,
+    /// Angular momentum about node (0, 0), affine part included; document 01's spin.
+    pub angular_momentum: i128,
+    /// Sum of m·(vx² + vy²).
+    pub motion: i128,
+}
+
+impl Totals {
+    /// The sums over particles.
+    pub fn of(particles: &[Particle]) -> Self {
+        let sum = |share: fn(&Particle) -> i128| -> i128 { particles.iter().map(share).sum() };
+        Totals {
+            mass: sum(|p| p.mass),
+            px: sum(|p| p.mass * p.vx),
+            py: sum(|p| p.mass * p.vy),
+            angular_momentum: sum(|p| p.mass * (p.x * p.vy - p.y * p.vx + p.byx - p.bxy)),
+            motion: sum(|p| p.mass * (p.vx.pow(2) + p.vy.pow(2))),
+        }
+    }
+}
+
+/// Totals of a set. Refused as check a set is.
+pub fn totals(size: Size, records: &[u8]) -> Result<Totals, Refusal> {
+    Ok(Totals::of(&particles(size, records)?))
+}

@@ -1,0 +1,95 @@
+//! Steps and runs.
+
+use crate::grid::{GridBuffers, Settings};
+use crate::limits::MAX_STEPS;
+use crate::particle_set::{check_length, walk};
+use crate::refusal::{require, Refusal, NEW_PLACE, NEW_VELOCITY, STEPS};
+use crate::transfer::{gather_by, scatter_by, update, Sums};
+
+/// The answer of a run: steps completed, and the first refusal if one stopped it.
+#[derive(Clone, Copy, Debug, PartialEq, Eq, Hash)]
+pub struct RunAnswer {
+    /// Number of completed steps.
+    pub completed: usize,
+    /// What stopped the run, at entry or at the next step.
+    pub refusal: Option<Refusal>,
+}
+
+/// Refuses 2; 1, also for the grid buffers; 10; 17; the set. A step asks for one step.
+fn check_entry(
+    settings: Settings,
+    steps: i128,
+    records: &[u8],
+    grid: &GridBuffers,
+) -> Result<(), Refusal> {
+    settings.size.check()?;
+    check_length(records)?;
+    grid.check_lengths(settings.size)?;
+    settings.check_gravity()?;
+    require((0..=MAX_STEPS).contains(&steps), STEPS, 0)?;
+    walk(settings.size, records, 0)?;
+    Ok(())
+}
+
+/// One step after the entry checks; only 13, 14 and 15 can come.
+fn advance(
+    sums: Sums,
+    settings: Settings,
+    records: &mut [u8],
+    grid: &mut GridBuffers,
+) -> Result<(), Refusal> {
+    scatter_by(sums, settings.size, records, grid).expect("entry checks passed");
+    update(settings, grid).expect("a scattered set can be updated");
+    gather_by(sums, settings.size, records, grid.x, grid.y).inspect_err(|refusal| {
+        assert!((NEW_VELOCITY..=NEW_PLACE).contains(&refusal.number));
+    })
+}
+
+/// Step: scatter, update, gather. Refused at entry: 2, 1, 10, the set, and nothing has changed.
+/// Refused with 13, 14, 15: the records are as they were, the grid holds masses and updated
+/// velocities.
+pub fn step(settings: Settings, records: &mut [u8], grid: &mut GridBuffers) -> Result<(), Refusal> {
+    step_by(Sums::Literal, settings, records, grid)
+}
+
+/// Step by the given sums.
+pub fn step_by(
+    sums: Sums,
+    settings: Settings,
+    records: &mut [u8],
+    grid: &mut GridBuffers,
+) -> Result<(), Refusal> {
+    check_entry(settings, 1, records, grid)?;
+    advance(sums, settings, records, grid)
+}
+
+/// Run: the step repeated, as often as wanted or until one is refused. Refused at entry: 2, 1, 10,
+/// 17, the set. The records are those of the last completed step, the grid that of the last step
+/// tried; a run of 0 steps touches nothing.
+pub fn run(
+    settings: Settings,
+    steps: i128,
+    records: &mut [u8],
+    grid: &mut GridBuffers,
+) -> RunAnswer {
+    run_by(Sums::Literal, settings, steps, records, grid)
+}
+
+/// Run by the given sums.
+pub fn run_by(
+    sums: Sums,
+    settings: Settings,
+    steps: i128,
+    records: &mut [u8],
+    grid: &mut GridBuffers,
+) -> RunAnswer {
+    let mut completed = 0;
+    let mut refusal = check_entry(settings, steps, records, grid).err();
+    while refusal.is_none() && (completed as i128) < steps {
+        match advance(sums, settings, records, grid) {
+            Ok(()) => completed += 1,
+            Err(stopped) => refusal = Some(stopped),
+        }
+    }
+    RunAnswer { completed, refusal }
+}

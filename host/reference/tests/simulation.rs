@@ -1,0 +1,244 @@
+//! Steps, runs and lists of calls.
+
+use reference::conservation::Ledger;
+use reference::generator::Generator;
+use reference::particle_set::{pack_records, particles};
+use reference::simulation::run_by;
+use reference::{gather, run, scatter, step, update};
+use reference::{Grid, Particle, Refusal, RunAnswer, Settings, Size, Sums};
+
+fn lone(x: i128, vx: i128) -> Particle {
+    Particle::at_rest(40, 3, x, 100).moving(vx, 0)
+}
+
+/// Masses and updated velocities of the set.
+fn updated_grid(settings: Settings, records: &[u8]) -> Grid {
+    let mut grid = Grid::zero(settings.size.nodes());
+    scatter(settings.size, records, &mut grid.buffers()).unwrap();
+    update(settings, &mut grid.buffers()).unwrap();
+    grid
+}
+
+#[test]
+fn a_step_is_scatter_update_gather() {
+    let mut generator = Generator::new(20);
+    for _ in 0..200 {
+        let size = Size::new(generator.between(4, 9), generator.between(4, 9));
+        let settings = Settings::new(size, generator.between(-300, 300), 40);
+        let mut records = pack_records(&generator.particles(size, 6, 20, 500));
+        let expected_grid = updated_grid(settings, &records);
+        let mut expected = records.clone();
+        let gathered = gather(size, &mut expected, &expected_grid.x, &expected_grid.y);
+        let mut grid = Grid::filled(size.nodes(), 77, i64::MIN, i64::MAX);
+        let answer = step(settings, &mut records, &mut grid.buffers());
+        assert_eq!((answer, records, grid), (gathered, expected, expected_grid));
+    }
+}
+
+/// A stopped step leaves the records and the grid of the step tried.
+#[test]
+fn a_step_stopped_by_13_14_15() {
+    let size = Size::new(8, 8);
+    let spreading = [2047, 0, 0, 0];
+    let apart = [
+        Particle::at_rest(1, 9, 176, 192)
+            .moving(-63, 0)
+            .with_b(spreading),
+        Particle::at_rest(2, 9, 208, 192)
+            .moving(63, 0)
+            .with_b(spreading),
+    ];
+    let cases: [(&[Particle], i128, Refusal); 4] = [
+        (&[lone(200, 63)], 128, Refusal::at(13, 0)),
+        (&apart, 0, Refusal::at(14, 0)),
+        (&[lone(415, 1)], 0, Refusal::at(15, 0)),
+        (
+            &[
+                Particle {
+                    identifier: 3,
+                    ..lone(200, 0)
+                },
+                lone(33, -2),
+            ],
+            0,
+            Refusal::at(15, 1),
+        ),
+    ];
+    for (start, gx, refusal) in cases {
+        let settings = Settings::new(size, gx, 0);
+        let before = pack_records(start);
+        let (mut records, mut grid) = (before.clone(), Grid::filled(64, 1, 2, 3));
+        let answer = step(settings, &mut records, &mut grid.buffers());
+        assert_eq!((answer, &records), (Err(refusal), &before));
+        assert_eq!(grid, updated_grid(settings, &before));
+        let mut run_grid = Grid::filled(64, 1, 2, 3);
+        let answer = run(settings, 9, &mut records, &mut run_grid.buffers());
+        let stopped = RunAnswer {
+            completed: 0,
+            refusal: Some(refusal),
+        };
+        assert_eq!((answer, records, run_grid), (stopped, before, grid));
+    }
+}
+
+/// From x = 100 with velocity 7 on 8 nodes (32 to 415), the 46th step would leave the grid.
+#[test]
+fn a_run_stopped_at_its_46th_step() {
+    let settings = Settings::new(Size::new(8, 8), 0, 0);
+    let mut records = lone(100, 7).pack();
+    let mut grid = Grid::zero(64);
+    let answer = run(settings, 100, &mut records, &mut grid.buffers());
+    let stopped = RunAnswer {
+        completed: 45,
+        refusal: Some(Refusal::at(15, 0)),
+    };
+    assert_eq!(answer, stopped);
+    assert_eq!(Particle::unpack(&records), lone(415, 7));
+    assert_eq!(grid, updated_grid(settings, &records));
+    let mut records = lone(100, 7).pack();
+    let answer = run(settings, 45, &mut records, &mut grid.buffers());
+    assert_eq!((answer.completed, answer.refusal), (45, None));
+    assert_eq!(grid, updated_grid(settings, &lone(408, 7).pack()));
+}
+
+/// A half always grows: under 128/256 a lone particle gains one unit per step, up to 63.
+#[test]
+fn a_run_stopped_by_its_velocity() {
+    let settings = Settings::new(Size::new(48, 4), 128, 0);
+    let mut records = lone(64, 0).pack();
+    let answer = run(
+        settings,
+        10_000,
+        &mut records,
+        &mut Grid::zero(192).buffers(),
+    );
+    assert_eq!(
+        (answer.completed, answer.refusal),
+        (63, Some(Refusal::at(13, 0)))
+    );
+    assert_eq!(Particle::unpack(&records), lone(64 + 63 * 32, 63));
+}
+
+#[test]
+fn a_run_of_no_steps_touches_nothing() {
+    let settings = Settings::new(Size::new(8, 8), 4096, 0);
+    let before = lone(415, 63).pack();
+    let (mut records, mut grid) = (before, Grid::filled(64, 5, 6, 7));
+    let answer = run(settings, 0, &mut records, &mut grid.buffers());
+    assert_eq!((answer.completed, answer.refusal), (0, None));
+    assert_eq!((records, grid), (before, Grid::filled(64, 5, 6, 7)));
+}
+
+#[test]
+fn an_empty_set_clears_the_grid() {
+    let settings = Settings::new(Size::new(4, 4), 4096, -4096);
+    let mut grid = Grid::filled(16, 5, 6, 7);
+    assert_eq!(step(settings, &mut [], &mut grid.buffers()), Ok(()));
+    assert_eq!(grid, Grid::zero(16));
+}
+
+#[test]
+fn a_run_is_the_step_repeated() {
+    let mut generator = Generator::new(21);
+    for _ in 0..60 {
+        let size = Size::new(generator.between(4, 12), generator.between(4, 12));
+        let settings = Settings::new(size, generator.between(-4, 4), generator.between(-4, 4));
+        let start = pack_records(&generator.particles(size, 8, 3, 20));
+        let wanted = generator.between(0, 50);
+        let (mut records, mut grid) = (start.clone(), Grid::zero(size.nodes()));
+        let answer = run(settings, wanted, &mut records, &mut grid.buffers());
+        let (mut stepped, mut stepped_grid) = (start, Grid::zero(size.nodes()));
+        let mut expected = RunAnswer {
+            completed: 0,
+            refusal: None,
+        };
+        while expected.refusal.is_none() && (expected.completed as i128) < wanted {
+            expected.refusal = step(settings, &mut stepped, &mut stepped_grid.buffers()).err();
+            expected.completed += usize::from(expected.refusal.is_none());
+        }
+        assert_eq!((answer, records, grid), (expected, stepped, stepped_grid));
+    }
+}
+
+/// Every accepted set is one on the largest grid too.
+const LARGEST: Size = Size { nx: 48, ny: 48 };
+
+/// One call of a list, refused or not, on a grid of its own size, checked step by step.
+fn call(generator: &mut Generator, size: Size, records: &mut [u8], ledger: &mut Ledger) {
+    let refused_entry = generator.once_in(4);
+    let wider = generator.between(-1, 3);
+    let size = Size::new(size.nx + wider, size.ny + wider.max(0));
+    let g = generator.one_of(&[0, 1, 40, 200]);
+    let mut settings = Settings::new(size, generator.between(-g, g), generator.between(-g, g));
+    let mut steps = generator.between(0, 12);
+    let mut grid = Grid::filled(size.nodes(), generator.bits(), -1, 1);
+    if refused_entry {
+        match generator.between(0, 3) {
+            0 => settings.size.nx = generator.one_of(&[0, 3, 49]),
+            1 => grid.y.push(0),
+            2 => settings.gy = 4097,
+            _ => steps = 10_001,
+        }
+    }
+    let mut stepped = records.to_vec();
+    let answer = run_by(Sums::Nearby, settings, steps, records, &mut grid.buffers());
+    for _ in 0..answer.completed {
+        let before = particles(LARGEST, &stepped).unwrap();
+        let mut one_step = Ledger::new(&before);
+        one_step.count_step(&before, settings);
+        ledger.count_step(&before, settings);
+        let mut grid = Grid::zero(size.nodes());
+        let one = run_by(Sums::Nearby, settings, 1, &mut stepped, &mut grid.buffers());
+        assert_eq!((one.completed, one.refusal), (1, None));
+        let after = particles(LARGEST, &stepped).unwrap();
+        one_step.check(&after).unwrap();
+    }
+    assert_eq!(stepped, records);
+    assert!(answer.completed as i128 == steps || answer.refusal.is_some());
+    assert!(!refused_entry || answer.completed == 0);
+}
+
+#[test]
+fn lists_of_calls_keep_to_demand_3() {
+    let mut generator = Generator::new(22);
+    let mut completed = 0;
+    for _ in 0..150 {
+        let size = Size::new(generator.between(4, 20), generator.between(4, 20));
+        let count = generator.between(0, 40) as usize;
+        let (v, b) = (
+            generator.one_of(&[1, 5, 63]),
+            generator.one_of(&[0, 30, 2047]),
+        );
+        let start = generator.particles(size, count, v, b);
+        let mut records = pack_records(&start);
+        let mut ledger = Ledger::new(&start);
+        for _ in 0..generator.between(0, 6) {
+            call(&mut generator, size, &mut records, &mut ledger);
+            ledger
+                .check(&particles(LARGEST, &records).unwrap())
+                .unwrap();
+        }
+        completed += ledger.completed;
+    }
+    assert!(completed > 500, "{completed}");
+}
+
+#[test]
+fn the_ledger_sees_what_breaks_demand_3() {
+    let start = [lone(100, 7)];
+    let ledger = Ledger::new(&start);
+    assert!(ledger.check(&start).is_ok());
+    assert!(ledger.check(&[]).is_err());
+    assert!(ledger.check(&[lone(100, 6)]).is_err());
+    assert!(ledger.check(&[start[0].with_b([0, 1, 0, 0])]).is_err());
+    assert!(ledger
+        .check(&[Particle {
+            mass: 4,
+            ..start[0]
+        }])
+        .is_err());
+    let mut ledger = Ledger::new(&start);
+    ledger.count_step(&start, Settings::new(Size::new(8, 8), 512, 0));
+    assert!(ledger.check(&[lone(109, 9)]).is_ok());
+    assert!(ledger.check(&[lone(107, 7)]).is_err());
+}

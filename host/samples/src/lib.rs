@@ -1,0 +1,172 @@
+//! Sample bath files, the same on every machine, with the program's text for each by the reference.
+
+#![forbid(unsafe_code)]
+#![warn(missing_docs)]
+
+use reference::generator::Generator;
+use reference::particle_set::pack_records;
+use reference::report::program_by;
+use reference::{Header, Particle, Settings, Size, Sums};
+
+/// A bath file with its name.
+#[derive(Clone, Debug, PartialEq, Eq)]
+pub struct Sample {
+    /// File name without its ending.
+    pub name: &'static str,
+    /// The bath file.
+    pub file: Vec<u8>,
+}
+
+impl Sample {
+    /// What the program prints for the file.
+    pub fn expected_output(&self) -> String {
+        program_by(Sums::Nearby, &self.file)
+    }
+}
+
+/// All samples.
+pub fn samples() -> Vec<Sample> {
+    vec![
+        printed(),
+        empty(),
+        refused(),
+        spreading(),
+        leaving(),
+        full(),
+    ]
+}
+
+/// A bath file of particles, in range or not.
+fn bath_file(settings: Settings, steps: i128, particles: &[Particle]) -> Vec<u8> {
+    let header = Header {
+        settings,
+        count: particles.len() as i128,
+        steps,
+    };
+    let mut file = header.pack(0).to_vec();
+    file.extend(pack_records(particles));
+    file
+}
+
+/// Settings without gravity.
+fn still(nx: i128, ny: i128) -> Settings {
+    Settings::new(Size::new(nx, ny), 0, 0)
+}
+
+/// Document 01's printed example.
+fn printed() -> Sample {
+    let particle = Particle::at_rest(7, 2, 64, 64).moving(3, -2);
+    Sample {
+        name: "printed",
+        file: bath_file(still(4, 4), 1, &[particle]),
+    }
+}
+
+/// No particle at all.
+fn empty() -> Sample {
+    let settings = Settings::new(Size::new(8, 6), 12, -256);
+    Sample {
+        name: "empty",
+        file: bath_file(settings, 10, &[]),
+    }
+}
+
+/// The third record has the identifier of the second.
+fn refused() -> Sample {
+    let particles = [
+        Particle::at_rest(100, 5, 200, 210),
+        Particle::at_rest(101, 5, 220, 210),
+        Particle::at_rest(101, 5, 240, 210),
+        Particle::at_rest(102, 5, 260, 210),
+    ];
+    Sample {
+        name: "refused",
+        file: bath_file(still(8, 8), 100, &particles),
+    }
+}
+
+/// Heavy particles three nodes apart turn against each other and carry a disc of light ones, which
+/// spreads and turns for 5,000 steps; the outermost heavy ones are at rest and keep it on the grid.
+fn spreading() -> Sample {
+    const CELLS: i128 = 10;
+    const TURN: i128 = 160;
+    const PULL: i128 = 13;
+    let mut particles = Vec::new();
+    for j in 0..CELLS {
+        for i in 0..CELLS {
+            let rim = [0, CELLS - 1].iter().any(|end| [i, j].contains(end));
+            let turn = if (i + j) % 2 == 0 { TURN } else { -TURN };
+            let b = if rim {
+                [0; 4]
+            } else {
+                [-PULL, -turn, turn, -PULL]
+            };
+            let identifier = particles.len() as u16;
+            let heavy = Particle::at_rest(identifier, 1023, 64 + 192 * i, 64 + 192 * j);
+            particles.push(heavy.with_b(b));
+        }
+    }
+    let mut generator = Generator::new(9);
+    for (dx, dy) in disc(&mut generator, 300, 300) {
+        let identifier = particles.len() as u16;
+        particles.push(Particle::at_rest(identifier, 1, 928 + dx, 928 + dy));
+    }
+    Sample {
+        name: "spreading",
+        file: bath_file(still(3 * CELLS, 3 * CELLS), 5_000, &particles),
+    }
+}
+
+/// Places spread evenly at random over a disc around (0, 0).
+fn disc(generator: &mut Generator, radius: i128, count: usize) -> Vec<(i128, i128)> {
+    let mut places = Vec::new();
+    while places.len() < count {
+        let mut coordinate = || generator.between(-radius, radius);
+        let (dx, dy) = (coordinate(), coordinate());
+        if dx * dx + dy * dy <= radius * radius {
+            places.push((dx, dy));
+        }
+    }
+    places
+}
+
+/// A turning disc that flies apart; after some steps a particle would leave the grid.
+fn leaving() -> Sample {
+    let mut generator = Generator::new(11);
+    let particles: Vec<Particle> = disc(&mut generator, 320, 240)
+        .into_iter()
+        .enumerate()
+        .map(|(k, (dx, dy))| {
+            let mass = generator.between(1, 40);
+            Particle::at_rest(1000 + 3 * k as u16, mass, 736 + dx, 736 + dy)
+                .moving(-dy / 64, dx / 64)
+                .with_b([0, -16, 16, 0])
+        })
+        .collect();
+    Sample {
+        name: "leaving",
+        file: bath_file(still(24, 24), 1_000, &particles),
+    }
+}
+
+/// As many particles, nodes and mass as an accepted file can have.
+fn full() -> Sample {
+    let mut generator = Generator::new(13);
+    let particles: Vec<Particle> = (0..4096)
+        .map(|k| {
+            let mut near = |place: i128| place + generator.between(-20, 20);
+            let (x, y) = (near(200 + 41 * (k % 64)), near(200 + 41 * (k / 64)));
+            let mut velocity = || generator.between(-4, 4);
+            let (vx, vy) = (velocity(), velocity());
+            let b = std::array::from_fn(|_| generator.between(-60, 60));
+            Particle::at_rest(16 * k as u16 + 5, 32, x, y)
+                .moving(vx, vy)
+                .with_b(b)
+        })
+        .collect();
+    let settings = Settings::new(Size::new(48, 48), 3, -5);
+    Sample {
+        name: "full",
+        file: bath_file(settings, 40, &particles),
+    }
+}

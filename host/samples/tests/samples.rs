@@ -1,0 +1,147 @@
+//! What each sample shows.
+
+use reference::conservation::Ledger;
+use reference::limits::HEADER_LENGTH;
+use reference::particle_set::particles;
+use reference::report::program_by;
+use reference::simulation::run_by;
+use reference::{read_file, Grid, Header, Particle, RunAnswer, Settings, Size, Sums};
+use samples::{samples, Sample};
+
+fn sample(name: &str) -> Sample {
+    let found = samples().into_iter().find(|sample| sample.name == name);
+    found.expect("a sample of this name")
+}
+
+/// The settings, the particles before and after the run, and the run's answer.
+fn run_sample(name: &str) -> (Settings, Vec<Particle>, Vec<Particle>, RunAnswer) {
+    let file = sample(name).file;
+    let Header {
+        settings, steps, ..
+    } = read_file(&file).unwrap();
+    let mut records = file[HEADER_LENGTH..].to_vec();
+    let before = particles(settings.size, &records).unwrap();
+    let mut grid = Grid::zero(settings.size.nodes());
+    let answer = run_by(
+        Sums::Nearby,
+        settings,
+        steps,
+        &mut records,
+        &mut grid.buffers(),
+    );
+    let after = particles(settings.size, &records).unwrap();
+    (settings, before, after, answer)
+}
+
+fn kept(particles: &[Particle]) -> Vec<(u16, i128)> {
+    particles.iter().map(|p| (p.identifier, p.mass)).collect()
+}
+
+fn moving(particles: &[Particle]) -> usize {
+    particles.iter().filter(|p| (p.vx, p.vy) != (0, 0)).count()
+}
+
+/// Mean square distance of the light particles from the middle of the grid.
+fn spread(particles: &[Particle]) -> i128 {
+    let light: Vec<_> = particles.iter().filter(|p| p.mass == 1).collect();
+    let squares = light
+        .iter()
+        .map(|p| (p.x - 928).pow(2) + (p.y - 928).pow(2));
+    squares.sum::<i128>() / light.len() as i128
+}
+
+#[test]
+fn spreading_completes_with_every_identifier() {
+    let (_, before, after, answer) = run_sample("spreading");
+    assert_eq!((answer.completed, answer.refusal), (5_000, None));
+    assert_eq!(kept(&after), kept(&before));
+    assert!(spread(&after) > 2 * spread(&before));
+    assert!(moving(&after) > 20);
+}
+
+#[test]
+fn leaving_stops_with_15() {
+    let (settings, before, after, answer) = run_sample("leaving");
+    let refusal = answer.refusal.expect("a stop");
+    assert_eq!(refusal.number, 15);
+    assert!((50..1_000).contains(&answer.completed));
+    assert_eq!(kept(&after), kept(&before));
+    let lost = after[refusal.place];
+    let (x, y) = (lost.x + lost.vx, lost.y + lost.vy);
+    assert!(!settings.size.holds(x, y));
+}
+
+#[test]
+fn full_is_full() {
+    let (settings, before, after, answer) = run_sample("full");
+    assert_eq!(settings.size, Size::new(48, 48));
+    assert_eq!(before.len(), 4096);
+    assert_eq!(before.iter().map(|p| p.mass).sum::<i128>(), 131_072);
+    assert_eq!((answer.completed, answer.refusal), (40, None));
+    assert_eq!(kept(&after), kept(&before));
+    assert!(moving(&after) > 1_000);
+}
+
+#[test]
+fn small_ones_print_this() {
+    let printed = "done 1 refusal 0 at 0\n\
+                   mass 2 px 6 py -4 spin -640 motion 26\n\
+                   7 2 67 62 3 -2 0 0 0 0\n";
+    assert_eq!(sample("printed").expected_output(), printed);
+    let empty = "done 10 refusal 0 at 0\nmass 0 px 0 py 0 spin 0 motion 0\n";
+    assert_eq!(sample("empty").expected_output(), empty);
+    assert_eq!(sample("refused").expected_output(), "refused 8 at 2\n");
+}
+
+/// Every completed step by itself, and all of them together, keep to demand 3.
+fn keeps_to_demand_3(name: &str) {
+    let (settings, before, after, answer) = run_sample(name);
+    let mut ledger = Ledger::new(&before);
+    let mut records = reference::particle_set::pack_records(&before);
+    let mut grid = Grid::zero(settings.size.nodes());
+    let mut now = before;
+    for _ in 0..answer.completed {
+        let mut one_step = Ledger::new(&now);
+        one_step.count_step(&now, settings);
+        ledger.count_step(&now, settings);
+        run_by(Sums::Nearby, settings, 1, &mut records, &mut grid.buffers());
+        now = particles(settings.size, &records).unwrap();
+        one_step.check(&now).unwrap();
+        ledger.check(&now).unwrap();
+    }
+    assert_eq!(now, after);
+}
+
+#[test]
+fn runs_keep_to_demand_3() {
+    ["spreading", "leaving", "full"]
+        .into_iter()
+        .for_each(keeps_to_demand_3);
+}
+
+/// The file with another number of steps.
+fn with_steps(file: &[u8], steps: i128) -> Vec<u8> {
+    let header = Header {
+        steps,
+        ..read_file(file).unwrap()
+    };
+    [&header.pack(0)[..], &file[HEADER_LENGTH..]].concat()
+}
+
+#[test]
+fn first_steps_by_literal_sums() {
+    for (name, steps) in [("spreading", 20), ("leaving", 20), ("full", 1)] {
+        let file = with_steps(&sample(name).file, steps);
+        let literal = program_by(Sums::Literal, &file);
+        assert_eq!(program_by(Sums::Nearby, &file), literal);
+    }
+}
+
+#[test]
+#[ignore = "literal sums of whole runs take minutes"]
+fn whole_runs_by_literal_sums() {
+    for sample in samples() {
+        let literal = program_by(Sums::Literal, &sample.file);
+        assert_eq!(sample.expected_output(), literal);
+    }
+}

@@ -1,0 +1,277 @@
+//! Read a file, write a header, the program.
+
+use reference::particle_set::pack_records;
+use reference::{Header, Particle, Settings, Size};
+
+use super::{accepted_sets, bytes, case, copies, lone, refused_sets, REFUSED_SIZES, SMALL};
+use crate::{Buffers, Case, Operation};
+
+pub fn cases() -> Vec<Case> {
+    [
+        read_refusals(),
+        read_cases(),
+        header_cases(),
+        program_cases(),
+    ]
+    .concat()
+}
+
+fn header(size: Size, count: i128, steps: i128) -> Header {
+    let settings = Settings::new(size, 0, 0);
+    Header {
+        settings,
+        count,
+        steps,
+    }
+}
+
+fn with_gravity(gx: i128, gy: i128) -> Header {
+    let settings = Settings::new(SMALL, gx, gy);
+    Header {
+        settings,
+        ..header(SMALL, 0, 0)
+    }
+}
+
+/// A header with spare bits, and records.
+fn file(header: Header, spare: i128, records: &[u8]) -> Buffers {
+    bytes([&header.pack(spare)[..], records].concat())
+}
+
+fn read(name: &str, file: Buffers, stated: Option<(u32, usize)>) -> Case {
+    case(
+        format!("read-file/{name}"),
+        Operation::ReadFile,
+        file,
+        stated,
+    )
+}
+
+fn read_refusals() -> Vec<Case> {
+    let one = lone(1).pack();
+    let two = pack_records(&copies(2, lone(0)));
+    let mut cases: Vec<Case> = [0, 1, 8]
+        .map(|length| {
+            read(
+                &format!("length-{length}-alone"),
+                bytes(vec![0; length]),
+                Some((1, 0)),
+            )
+        })
+        .into();
+    for (name, size) in &REFUSED_SIZES[..5] {
+        let mut broken = header(*size, 8191, 16_383);
+        broken.settings.gx = 8191;
+        cases.push(read(name, file(broken, 31, &[]), Some((2, 0))));
+    }
+    for (gx, gy) in [(4097, 0), (-4097, 0), (0, 4097), (0, -4097), (-8192, 8191)] {
+        let broken = Header {
+            count: 4097,
+            ..with_gravity(gx, gy)
+        };
+        cases.push(read(
+            &format!("gx-{gx}-gy-{gy}"),
+            file(broken, 1, &[]),
+            Some((10, 0)),
+        ));
+    }
+    let count = header(SMALL, 4097, 10_001);
+    let steps = header(SMALL, 2, 10_001);
+    cases.extend([
+        read("count-4097", file(count, 1, &[]), Some((3, 0))),
+        read(
+            "count-4097-held",
+            file(
+                header(SMALL, 4097, 1),
+                0,
+                &pack_records(&copies(4097, lone(0))),
+            ),
+            Some((3, 0)),
+        ),
+        read(
+            "count-8191",
+            file(header(SMALL, 8191, 1), 0, &[]),
+            Some((3, 0)),
+        ),
+        read("steps-10001", file(steps, 1, &one), Some((17, 0))),
+        read(
+            "steps-16383",
+            file(header(SMALL, 0, 16_383), 0, &[]),
+            Some((17, 0)),
+        ),
+    ]);
+    for spare in [1, 2, 4, 8, 16, 31] {
+        let name = format!("spare-{spare}");
+        cases.push(read(
+            &name,
+            file(header(SMALL, 2, 1), spare, &one),
+            Some((16, 0)),
+        ));
+    }
+    let massless = Particle { mass: 0, ..lone(0) }.pack();
+    cases.extend([
+        read(
+            "no-record-of-2",
+            file(header(SMALL, 2, 1), 0, &[]),
+            Some((1, 0)),
+        ),
+        read(
+            "one-record-of-2",
+            file(header(SMALL, 2, 1), 0, &massless),
+            Some((1, 0)),
+        ),
+        read(
+            "one-byte-short",
+            file(header(SMALL, 2, 1), 0, &two[..27]),
+            Some((1, 0)),
+        ),
+        read(
+            "one-byte-long",
+            file(header(SMALL, 1, 1), 0, &two[..15]),
+            Some((1, 0)),
+        ),
+        read(
+            "two-records-of-1",
+            file(header(SMALL, 1, 1), 0, &two),
+            Some((1, 0)),
+        ),
+        read(
+            "one-record-of-0",
+            file(header(SMALL, 0, 1), 0, &one),
+            Some((1, 0)),
+        ),
+    ]);
+    for (name, records, stated) in refused_sets() {
+        // Whole records only, and no more than the count can say.
+        if stated.0 == 1 {
+            continue;
+        }
+        let count = records.len() as i128 / 14;
+        cases.push(read(
+            name,
+            file(header(SMALL, count, 1), 0, &records),
+            Some(stated),
+        ));
+    }
+    cases
+}
+
+fn read_cases() -> Vec<Case> {
+    let mut cases: Vec<Case> = accepted_sets()
+        .into_iter()
+        .map(|(name, records)| {
+            let count = records.len() as i128 / 14;
+            read(name, file(header(SMALL, count, 1), 0, &records), None)
+        })
+        .collect();
+    cases.extend([
+        read("printed", bytes(PRINTED), None),
+        read("steps-0", file(header(SMALL, 0, 0), 0, &[]), None),
+        read("steps-10000", file(header(SMALL, 0, 10_000), 0, &[]), None),
+        read(
+            "48-by-4",
+            file(header(Size::new(48, 4), 0, 1), 0, &[]),
+            None,
+        ),
+        read(
+            "4-by-48",
+            file(header(Size::new(4, 48), 0, 1), 0, &[]),
+            None,
+        ),
+        read(
+            "largest-gravity",
+            file(with_gravity(4096, 4096), 0, &[]),
+            None,
+        ),
+        read(
+            "smallest-gravity",
+            file(with_gravity(-4096, -4096), 0, &[]),
+            None,
+        ),
+        read("gravity-1-and--1", file(with_gravity(1, -1), 0, &[]), None),
+    ]);
+    cases
+}
+
+/// Document 01's printed example.
+const PRINTED: [u8; 23] = [
+    0x10, 0x40, 0x00, 0x00, 0x00, 0x00, 0x08, 0x00, 0x20, 0x00, 0x07, 0x00, 0x81, 0x00, 0x10, 0x01,
+    0xFE, 0x00, 0x00, 0x00, 0x00, 0x00, 0x00,
+];
+
+fn header_cases() -> Vec<Case> {
+    let write = |name: &str, header: Header, number: u32| {
+        let stated = (number > 0).then_some((number, 0));
+        let operation = Operation::WriteHeader(header);
+        case(
+            format!("write-header/{name}"),
+            operation,
+            bytes([0xA5; 9]),
+            stated,
+        )
+    };
+    let broken = Header {
+        settings: Settings::new(Size::new(4, 49), 4097, 0),
+        ..header(SMALL, 4097, 10_001)
+    };
+    let gravity = Header {
+        settings: Settings::new(SMALL, 0, -4097),
+        ..broken
+    };
+    let largest = Header {
+        settings: Settings::new(Size::new(48, 48), 4096, 4096),
+        ..header(SMALL, 4096, 10_000)
+    };
+    let mut cases = vec![
+        write("printed", header(SMALL, 1, 1), 0),
+        write(
+            "smallest",
+            Header {
+                ..with_gravity(-4096, -4096)
+            },
+            0,
+        ),
+        write("largest", largest, 0),
+        write("2-before-the-rest", broken, 2),
+        write("10-before-3-and-17", gravity, 10),
+        write("3-before-17", header(SMALL, 4097, 10_001), 3),
+        write("17", header(SMALL, 4096, 10_001), 17),
+    ];
+    for length in [0, 8, 10] {
+        let name = format!("write-header/length-{length}");
+        let buffers = bytes(vec![0xA5; length]);
+        cases.push(case(
+            name,
+            Operation::WriteHeader(broken),
+            buffers,
+            Some((1, 0)),
+        ));
+    }
+    cases
+}
+
+fn program_cases() -> Vec<Case> {
+    let program = |name: &str, file: Buffers| {
+        let name = format!("program/{name}");
+        case(name, Operation::Program, file, None)
+    };
+    let one = |steps: i128, particle: Particle| file(header(SMALL, 1, steps), 0, &particle.pack());
+    let gliding = Particle::at_rest(40, 3, 100, 100).moving(-7, 0);
+    let leaving = Particle::at_rest(40, 3, 90, 100).moving(-63, 0);
+    let massless = Particle { mass: 0, ..lone(2) };
+    let refused = pack_records(&[lone(1), massless]);
+    vec![
+        program("printed", bytes(PRINTED)),
+        program("no-input", bytes([])),
+        program("text", bytes(*b"hello, grid\n")),
+        program(
+            "longer-than-any-file",
+            file(header(SMALL, 1, 1), 0, &[0; 60_000]),
+        ),
+        program("no-record", file(header(SMALL, 0, 10), 0, &[])),
+        program("no-step", one(0, lone(1))),
+        program("refused-record", file(header(SMALL, 2, 1), 0, &refused)),
+        program("stopped", one(100, gliding.with_b([1, -2, 3, -4]))),
+        program("stopped-at-once", one(100, leaving)),
+    ]
+}

@@ -1,0 +1,227 @@
+//! The cases, operation by operation.
+
+mod files;
+mod records;
+mod sets;
+mod simulation;
+mod transfers;
+
+use reference::particle_set::pack_records;
+use reference::{Grid, Particle, Refusal, Size};
+
+use crate::{perform, Buffers, Case, Operation};
+
+/// All cases.
+pub fn cases() -> Vec<Case> {
+    [
+        records::cases(),
+        sets::cases(),
+        transfers::cases(),
+        simulation::cases(),
+        files::cases(),
+    ]
+    .concat()
+}
+
+/// The smallest grid.
+const SMALL: Size = Size { nx: 4, ny: 4 };
+
+/// A case with the refusal that is expected of it: number and place, or none.
+fn case(
+    name: impl Into<String>,
+    operation: Operation,
+    before: Buffers,
+    stated: Option<(u32, usize)>,
+) -> Case {
+    let mut after = before.clone();
+    let answer = perform(operation, &mut after);
+    Case {
+        name: name.into(),
+        operation,
+        before,
+        answer,
+        after,
+        stated: stated.map(|(number, place)| Refusal::at(number, place)),
+    }
+}
+
+/// Buffers without a grid.
+fn bytes(bytes: impl Into<Vec<u8>>) -> Buffers {
+    let (bytes, grid) = (bytes.into(), Grid::zero(0));
+    Buffers { bytes, grid }
+}
+
+/// A grid for the size that holds what no operation leaves.
+fn used_grid(size: Size) -> Grid {
+    Grid::filled(size.nodes(), 9, -8, 7)
+}
+
+/// Records with a used grid of this size.
+fn with_grid(bytes: impl Into<Vec<u8>>, size: Size) -> Buffers {
+    let (bytes, grid) = (bytes.into(), used_grid(size));
+    Buffers { bytes, grid }
+}
+
+/// A particle of mass 1 at rest at (64, 64) with B zero.
+fn lone(identifier: u16) -> Particle {
+    Particle::at_rest(identifier, 1, 64, 64)
+}
+
+/// Particles equal but for their identifiers, which rise from 0.
+fn copies(count: u16, particle: Particle) -> Vec<Particle> {
+    let copy = |identifier| Particle {
+        identifier,
+        ..particle
+    };
+    (0..count).map(copy).collect()
+}
+
+/// Equal particles with the greatest total mass: 128 of mass 1023 and one of 128.
+fn heaviest(particle: Particle) -> Vec<Particle> {
+    let mut particles = copies(
+        129,
+        Particle {
+            mass: 1023,
+            ..particle
+        },
+    );
+    particles[128].mass = 128;
+    particles
+}
+
+/// Bytes of a set, with the number and place of its refusal.
+type RefusedSet = (&'static str, Vec<u8>, (u32, usize));
+
+/// Sets refused on 4 by 4 nodes.
+fn refused_sets() -> Vec<RefusedSet> {
+    [refused_lengths(), refused_records(), refused_in_order()].concat()
+}
+
+fn refused_lengths() -> Vec<RefusedSet> {
+    let record = lone(3).pack();
+    vec![
+        ("length-1", vec![0xA5], (1, 0)),
+        ("length-13", record[..13].to_vec(), (1, 0)),
+        ("length-15", [&record[..], &[0]].concat(), (1, 0)),
+        ("records-4097", pack_records(&copies(4097, lone(0))), (1, 0)),
+    ]
+}
+
+/// Three records, the middle one changed.
+fn middle_changed(change: impl Fn(&mut Particle)) -> Vec<u8> {
+    let mut particles = [lone(3), lone(5), lone(9)];
+    change(&mut particles[1]);
+    pack_records(&particles)
+}
+
+/// One limit broken.
+fn refused_records() -> Vec<RefusedSet> {
+    let one = |change: fn(&mut Particle)| middle_changed(change);
+    vec![
+        ("mass-0", one(|p| p.mass = 0), (4, 1)),
+        ("vx--64", one(|p| p.vx = -64), (5, 1)),
+        ("vy--64", one(|p| p.vy = -64), (5, 1)),
+        ("Bxx--2048", one(|p| p.bxx = -2048), (6, 1)),
+        ("Bxy--2048", one(|p| p.bxy = -2048), (6, 1)),
+        ("Byx--2048", one(|p| p.byx = -2048), (6, 1)),
+        ("Byy--2048", one(|p| p.byy = -2048), (6, 1)),
+        ("x-31", one(|p| p.x = 31), (7, 1)),
+        ("x-160", one(|p| p.x = 160), (7, 1)),
+        ("y-31", one(|p| p.y = 31), (7, 1)),
+        ("y-160", one(|p| p.y = 160), (7, 1)),
+        ("identifier-repeats", one(|p| p.identifier = 3), (8, 1)),
+        ("identifier-falls", one(|p| p.identifier = 2), (8, 1)),
+        ("next-identifier-falls", one(|p| p.identifier = 10), (8, 2)),
+        ("total-mass-131073", pack_records(&too_heavy()), (9, 128)),
+    ]
+}
+
+/// Several limits broken.
+fn refused_in_order() -> Vec<RefusedSet> {
+    let one = |change: fn(&mut Particle)| middle_changed(change);
+    let all = Particle::at_rest(3, 0, 0, 4095)
+        .moving(-64, -64)
+        .with_b([-2048; 4]);
+    let fast = lone(5).moving(0, -64).with_b([-2048; 4]);
+    let mut later = too_heavy();
+    later.push(Particle {
+        mass: 0,
+        ..lone(500)
+    });
+    vec![
+        ("4-before-the-rest", middle_changed(|p| *p = all), (4, 1)),
+        ("5-before-6", middle_changed(|p| *p = fast), (5, 1)),
+        ("6-before-7", one(|p| (p.bxy, p.x) = (-2048, 0)), (6, 1)),
+        (
+            "7-before-8",
+            one(|p| (p.y, p.identifier) = (4095, 3)),
+            (7, 1),
+        ),
+        ("8-before-9", repeated_and_heavy(), (8, 128)),
+        ("lower-record-first", pack_records(&later), (9, 128)),
+    ]
+}
+
+/// Total mass 131,073 with the last record.
+fn too_heavy() -> Vec<Particle> {
+    let mut particles = heaviest(lone(0));
+    particles[128].mass = 129;
+    particles
+}
+
+/// The last record repeats an identifier and passes the total mass.
+fn repeated_and_heavy() -> Vec<u8> {
+    let mut particles = too_heavy();
+    particles[128].identifier = 127;
+    pack_records(&particles)
+}
+
+/// Sets accepted on 4 by 4 nodes.
+fn accepted_sets() -> Vec<(&'static str, Vec<u8>)> {
+    let low = Particle::at_rest(0, 1, 32, 32)
+        .moving(-63, -63)
+        .with_b([-2047; 4]);
+    let high = Particle::at_rest(u16::MAX, 1023, 159, 159)
+        .moving(63, 63)
+        .with_b([2047; 4]);
+    vec![
+        ("empty", vec![]),
+        ("one", lone(7).pack().to_vec()),
+        ("two-at-one-place", pack_records(&copies(2, lone(0)))),
+        ("smallest-and-largest", pack_records(&[low, high])),
+        (
+            "records-4096",
+            pack_records(&copies(
+                4096,
+                Particle {
+                    mass: 32,
+                    ..lone(0)
+                },
+            )),
+        ),
+        ("total-mass-131072", pack_records(&heaviest(lone(0)))),
+    ]
+}
+
+/// Sizes that are refused.
+const REFUSED_SIZES: [(&str, Size); 6] = [
+    ("nx-3", Size { nx: 3, ny: 4 }),
+    ("ny-3", Size { nx: 4, ny: 3 }),
+    ("nx-49", Size { nx: 49, ny: 48 }),
+    ("ny-49", Size { nx: 48, ny: 49 }),
+    ("nx-0", Size { nx: 0, ny: 0 }),
+    ("nx-255", Size { nx: 255, ny: 255 }),
+];
+
+/// Changes one buffer of a grid.
+type GridChange = (&'static str, fn(&mut Grid));
+
+/// Grids of wrong length.
+const REFUSED_GRIDS: [GridChange; 6] = [
+    ("mass-short", |grid| grid.mass.truncate(15)),
+    ("mass-long", |grid| grid.mass.push(1)),
+    ("x-short", |grid| grid.x.truncate(15)),
+    ("x-long", |grid| grid.x.push(1)),
+    ("y-empty", |grid| grid.y.clear()),
+    ("y-long", |grid| grid.y.push(1)),
+];

@@ -1,0 +1,365 @@
+//! Step, run, and lists of both.
+
+use reference::particle_set::pack_records;
+use reference::{Grid, Particle, Settings, Size};
+
+use super::{case, copies, heaviest, lone, refused_sets, used_grid, with_grid};
+use super::{REFUSED_GRIDS, REFUSED_SIZES, SMALL};
+use crate::{Buffers, Case, Operation};
+
+pub fn cases() -> Vec<Case> {
+    let step: fn(Settings) -> Operation = Operation::Step;
+    let run: fn(Settings) -> Operation = |settings| Operation::Run(settings, 3);
+    [
+        entry_refusals("step", step),
+        step_cases(),
+        entry_refusals("run", run),
+        run_refusals(),
+        run_cases(),
+        drifting_list(),
+        spreading_list(),
+    ]
+    .concat()
+}
+
+/// A grid on which a coordinate is 32 to 415.
+const MIDDLE: Size = Size { nx: 8, ny: 8 };
+
+fn entry_refusals(name: &str, operation: fn(Settings) -> Operation) -> Vec<Case> {
+    let mut cases = Vec::new();
+    for (size_name, size) in REFUSED_SIZES {
+        let operation = operation(Settings::new(size, 4097, 0));
+        let buffers = with_grid([0xA5; 13], SMALL);
+        cases.push(case(
+            format!("{name}/{size_name}"),
+            operation,
+            buffers,
+            Some((2, 0)),
+        ));
+    }
+    let massless = Particle { mass: 0, ..lone(0) }.pack();
+    for (grid_name, change) in REFUSED_GRIDS {
+        let operation = operation(Settings::new(SMALL, 4097, 0));
+        let mut buffers = with_grid(massless, SMALL);
+        change(&mut buffers.grid);
+        cases.push(case(
+            format!("{name}/{grid_name}"),
+            operation,
+            buffers,
+            Some((1, 0)),
+        ));
+    }
+    for (gx, gy) in [(4097, 0), (-4097, 0), (0, 4097), (0, -4097)] {
+        let operation = operation(Settings::new(SMALL, gx, gy));
+        let buffers = with_grid(massless, SMALL);
+        let name = format!("{name}/gx-{gx}-gy-{gy}");
+        cases.push(case(name, operation, buffers, Some((10, 0))));
+    }
+    for (set_name, records, stated) in refused_sets() {
+        let operation = operation(Settings::new(SMALL, 4096, -4096));
+        let buffers = with_grid(records, SMALL);
+        cases.push(case(
+            format!("{name}/{set_name}"),
+            operation,
+            buffers,
+            Some(stated),
+        ));
+    }
+    cases
+}
+
+fn run_refusals() -> Vec<Case> {
+    let massless = Particle { mass: 0, ..lone(0) }.pack();
+    let run = |name: &str, gx: i128, steps: i128, number: u32| {
+        let operation = Operation::Run(Settings::new(SMALL, gx, 0), steps);
+        let buffers = with_grid(massless, SMALL);
+        case(format!("run/{name}"), operation, buffers, Some((number, 0)))
+    };
+    vec![
+        run("steps-10001", 0, 10_001, 17),
+        run("steps-65535", 0, 65_535, 17),
+        run("10-before-17", 4097, 10_001, 10),
+        run("0-steps-of-a-refused-set", 0, 0, 4),
+    ]
+}
+
+/// Two particles that spread so fast that B passes its limit.
+fn bursting() -> [Particle; 2] {
+    let b = [2047, 0, 0, 0];
+    [
+        Particle::at_rest(1, 9, 176, 192).moving(-63, 0).with_b(b),
+        Particle::at_rest(2, 9, 208, 192).moving(63, 0).with_b(b),
+    ]
+}
+
+fn step_cases() -> Vec<Case> {
+    let step = |name: &str, size: Size, gx: i128, particles: &[Particle], stated| {
+        let operation = Operation::Step(Settings::new(size, gx, 0));
+        let buffers = with_grid(pack_records(particles), size);
+        case(format!("step/{name}"), operation, buffers, stated)
+    };
+    let heavy = Particle { mass: 2, ..lone(2) };
+    let drifting = Particle::at_rest(5, 1, 415, 200).moving(1, 0);
+    let upward = Particle::at_rest(4, 1, 200, 200);
+    let dropping = Particle::at_rest(5, 1, 100, 33).moving(0, -2);
+    let fast = Particle::at_rest(5, 1, 200, 200).moving(63, 0);
+    vec![
+        step("empty", SMALL, 4096, &[], None),
+        step(
+            "printed",
+            SMALL,
+            0,
+            &[Particle::at_rest(7, 2, 64, 64).moving(3, -2)],
+            None,
+        ),
+        step("gx-127", SMALL, 127, &[lone(1)], None),
+        step("gx-128", SMALL, 128, &[lone(1)], None),
+        step("gx--127", SMALL, -127, &[lone(1)], None),
+        step("gx--128", SMALL, -128, &[lone(1)], None),
+        step("gx-4096", SMALL, 4096, &[lone(1)], None),
+        step(
+            "Bxx-1024",
+            SMALL,
+            0,
+            &[lone(1).with_b([1024, 0, 0, 0])],
+            None,
+        ),
+        step(
+            "turn",
+            SMALL,
+            0,
+            &[lone(1).with_b([0, -1024, 1024, 0])],
+            None,
+        ),
+        step(
+            "opposite-at-one-place",
+            SMALL,
+            0,
+            &[lone(1).moving(1, 0), lone(2).moving(-1, 0)],
+            None,
+        ),
+        step(
+            "masses-1-and-2",
+            SMALL,
+            0,
+            &[lone(1).moving(1, 0), heavy],
+            None,
+        ),
+        step("three-near-each-other", MIDDLE, 9, &near_each_other(), None),
+        step(
+            "heaviest",
+            MIDDLE,
+            4096,
+            &heaviest(Particle::at_rest(0, 1, 352, 40).moving(47, 5)),
+            None,
+        ),
+        step("13", MIDDLE, 128, &[fast], Some((13, 0))),
+        step(
+            "13-at-record-1",
+            MIDDLE,
+            128,
+            &[
+                lone(1),
+                Particle {
+                    x: 300,
+                    y: 300,
+                    ..fast
+                },
+            ],
+            Some((13, 1)),
+        ),
+        step("14", MIDDLE, 0, &bursting(), Some((14, 0))),
+        step("15", MIDDLE, 0, &[drifting], Some((15, 0))),
+        step(
+            "15-at-record-1",
+            MIDDLE,
+            0,
+            &[upward, dropping],
+            Some((15, 1)),
+        ),
+        step(
+            "15-of-two-at-one-place",
+            MIDDLE,
+            0,
+            &copies(2, drifting),
+            Some((15, 0)),
+        ),
+    ]
+}
+
+/// Three particles that share nodes.
+fn near_each_other() -> [Particle; 3] {
+    [
+        Particle::at_rest(10, 5, 190, 210)
+            .moving(4, -3)
+            .with_b([100, -200, 300, -50]),
+        Particle::at_rest(20, 70, 217, 195)
+            .moving(-2, 6)
+            .with_b([-40, 60, 90, 150]),
+        Particle::at_rest(21, 311, 170, 260)
+            .moving(1, 0)
+            .with_b([7, 5, -3, -11]),
+    ]
+}
+
+fn run_cases() -> Vec<Case> {
+    let run = |name: &str, settings: Settings, steps: i128, particles: &[Particle], stated| {
+        let buffers = with_grid(pack_records(particles), settings.size);
+        let operation = Operation::Run(settings, steps);
+        case(format!("run/{name}"), operation, buffers, stated)
+    };
+    let still = Settings::new(MIDDLE, 0, 0);
+    let falling = Settings::new(Size::new(48, 4), 128, 0);
+    let gliding = Particle::at_rest(40, 3, 100, 100).moving(7, 0);
+    let meeting = [
+        Particle::at_rest(1, 1, 113, 192)
+            .moving(4, 0)
+            .with_b([-1848, 0, 0, 0]),
+        Particle::at_rest(2, 9, 337, 192)
+            .moving(-14, 0)
+            .with_b([1986, 0, 0, 0]),
+    ];
+    vec![
+        run("0-steps", still, 0, &[gliding], None),
+        run("0-steps-of-what-would-stop", still, 0, &bursting(), None),
+        run("1-step", still, 1, &[gliding], None),
+        run("45-steps", still, 45, &[gliding], None),
+        run(
+            "stopped-at-its-46th-step-by-15",
+            still,
+            46,
+            &[gliding],
+            Some((15, 0)),
+        ),
+        run(
+            "wanting-10000-stopped-by-15",
+            still,
+            10_000,
+            &[gliding],
+            Some((15, 0)),
+        ),
+        run(
+            "stopped-at-its-1st-step-by-15",
+            still,
+            9,
+            &[Particle { x: 409, ..gliding }],
+            Some((15, 0)),
+        ),
+        run(
+            "stopped-at-its-64th-step-by-13",
+            falling,
+            100,
+            &[lone(1)],
+            Some((13, 0)),
+        ),
+        run(
+            "stopped-at-its-1st-step-by-14",
+            still,
+            9,
+            &bursting(),
+            Some((14, 0)),
+        ),
+        run(
+            "stopped-at-its-6th-step-by-14",
+            still,
+            100,
+            &meeting,
+            Some((14, 0)),
+        ),
+        run(
+            "10000-steps-of-nothing",
+            Settings::new(SMALL, 4096, -4096),
+            10_000,
+            &[],
+            None,
+        ),
+        run(
+            "10000-steps-of-a-turn",
+            Settings::new(SMALL, 0, 0),
+            10_000,
+            &[lone(1).with_b([0, -9, 9, 0])],
+            None,
+        ),
+        run(
+            "20-steps-of-three",
+            Settings::new(MIDDLE, 3, -2),
+            20,
+            &near_each_other(),
+            None,
+        ),
+    ]
+}
+
+/// A call of a list: the operation, its grid and its refusal.
+type ListCall = (Operation, Grid, Option<(u32, usize)>);
+
+/// The calls of a list, each with the records that the one before left.
+fn list(name: &str, start: &[Particle], calls: &[ListCall]) -> Vec<Case> {
+    let mut bytes = pack_records(start);
+    let mut cases = Vec::new();
+    for (number, (operation, grid, stated)) in calls.iter().enumerate() {
+        let buffers = Buffers {
+            bytes,
+            grid: grid.clone(),
+        };
+        let case = case(
+            format!("list/{name}/{number}"),
+            *operation,
+            buffers,
+            *stated,
+        );
+        bytes = case.after.bytes.clone();
+        cases.push(case);
+    }
+    cases
+}
+
+/// One particle, every kind of call, grids of other sizes in between.
+fn drifting_list() -> Vec<Case> {
+    let start = [Particle::at_rest(40, 3, 100, 100).moving(7, 1)];
+    let settings = |nx, ny, gx| Settings::new(Size::new(nx, ny), gx, 0);
+    let step = |s: Settings, stated| (Operation::Step(s), used_grid(s.size), stated);
+    let run = |s: Settings, steps, stated| (Operation::Run(s, steps), used_grid(s.size), stated);
+    let mut short = used_grid(MIDDLE);
+    short.y.truncate(63);
+    let calls = [
+        step(settings(8, 8, 0), None),
+        run(settings(8, 8, 0), 5, None),
+        run(settings(8, 8, 0), 0, None),
+        step(settings(8, 8, 5000), Some((10, 0))),
+        (Operation::Step(settings(8, 8, 0)), short, Some((1, 0))),
+        step(settings(49, 8, 0), Some((2, 0))),
+        run(settings(8, 8, 0), 10_001, Some((17, 0))),
+        run(settings(4, 8, 0), 1, None),
+        run(settings(4, 8, 0), 4, Some((15, 0))),
+        step(settings(4, 8, 0), Some((15, 0))),
+        run(settings(12, 6, 0), 10, None),
+        step(settings(4, 8, 0), Some((7, 0))),
+        run(settings(4, 8, 0), 0, Some((7, 0))),
+        run(settings(12, 6, -300), 6, None),
+        step(settings(12, 6, 4096), None),
+        run(settings(12, 6, 2048), 100, Some((13, 0))),
+        run(settings(12, 6, -2048), 9, None),
+        run(settings(12, 6, 0), 10_000, Some((15, 0))),
+        step(settings(12, 6, 0), Some((15, 0))),
+    ];
+    list("drifting", &start, &calls)
+}
+
+/// Three particles that share nodes, runs and steps in turn until one leaves.
+fn spreading_list() -> Vec<Case> {
+    let settings = |nx, ny, gx, gy| Settings::new(Size::new(nx, ny), gx, gy);
+    let step = |s: Settings, stated| (Operation::Step(s), used_grid(s.size), stated);
+    let run = |s: Settings, steps, stated| (Operation::Run(s, steps), used_grid(s.size), stated);
+    let calls = [
+        run(settings(8, 8, 0, 0), 3, None),
+        step(settings(8, 8, 40, -40), None),
+        step(settings(8, 9, -40, 40), None),
+        run(settings(3, 9, 0, 0), 7, Some((2, 0))),
+        run(settings(9, 8, 12, 0), 7, None),
+        run(settings(9, 8, 0, 4097), 0, Some((10, 0))),
+        run(settings(9, 8, 150, 150), 10_000, Some((15, 2))),
+        run(settings(48, 48, 0, 0), 25, None),
+    ];
+    list("spreading", &near_each_other(), &calls)
+}

@@ -1,0 +1,574 @@
+//! Scatter, update, gather.
+
+use reference::limits::{D, MAX_B, MAX_VELOCITY};
+use reference::particle_set::pack_records;
+use reference::spline::axis_weight;
+use reference::{Grid, Particle, Settings, Size};
+
+use super::{accepted_sets, case, copies, heaviest, lone, refused_sets, used_grid, with_grid};
+use super::{REFUSED_GRIDS, REFUSED_SIZES, SMALL};
+use crate::{Buffers, Case, Operation};
+
+pub fn cases() -> Vec<Case> {
+    [
+        scatter_refusals(),
+        scatter_cases(),
+        update_refusals(),
+        update_cases(),
+        update_refused_nodes(),
+        update_velocity_edges(),
+        gather_refusals(),
+        gather_cases(),
+        gather_b_cases(),
+        gather_place_cases(),
+        gather_order_cases(),
+    ]
+    .concat()
+}
+
+fn scatter_refusals() -> Vec<Case> {
+    let mut cases = Vec::new();
+    for (name, size) in REFUSED_SIZES {
+        let buffers = with_grid([0xA5; 13], SMALL);
+        let operation = Operation::Scatter(size);
+        cases.push(case(
+            format!("scatter/{name}"),
+            operation,
+            buffers,
+            Some((2, 0)),
+        ));
+    }
+    for (name, change) in REFUSED_GRIDS {
+        // The set would be refused too, after the length.
+        let mut buffers = with_grid(Particle { mass: 0, ..lone(0) }.pack(), SMALL);
+        change(&mut buffers.grid);
+        let operation = Operation::Scatter(SMALL);
+        cases.push(case(
+            format!("scatter/{name}"),
+            operation,
+            buffers,
+            Some((1, 0)),
+        ));
+    }
+    for (name, records, stated) in refused_sets() {
+        let buffers = with_grid(records, SMALL);
+        let operation = Operation::Scatter(SMALL);
+        cases.push(case(
+            format!("scatter/{name}"),
+            operation,
+            buffers,
+            Some(stated),
+        ));
+    }
+    cases
+}
+
+fn scatter_cases() -> Vec<Case> {
+    let scatter = |name: &str, size: Size, records: Vec<u8>| {
+        let name = format!("scatter/{name}");
+        case(
+            name,
+            Operation::Scatter(size),
+            with_grid(records, size),
+            None,
+        )
+    };
+    let small = |name: &str, particles: &[Particle]| scatter(name, SMALL, pack_records(particles));
+    let mut cases: Vec<Case> = accepted_sets()
+        .into_iter()
+        .map(|(name, records)| scatter(name, SMALL, records))
+        .collect();
+    let (rising, falling) = (largest_momentum(1), largest_momentum(-1));
+    cases.extend([
+        small("moving", &[lone(1).moving(3, -2)]),
+        small(
+            "weight-0-at-the-upper-nodes",
+            &[Particle::at_rest(1, 1, 32, 96)],
+        ),
+        small("offset-31", &[Particle::at_rest(1, 1, 95, 159)]),
+        small("Bxx", &[lone(1).with_b([1024, 0, 0, 0])]),
+        small("Bxy", &[lone(1).with_b([0, 1024, 0, 0])]),
+        small("Byx", &[lone(1).with_b([0, 0, 1024, 0])]),
+        small("Byy", &[lone(1).with_b([0, 0, 0, 1024])]),
+        small(
+            "turn",
+            &[Particle::at_rest(1, 7, 70, 51).with_b([0, -300, 300, 0])],
+        ),
+        small(
+            "opposite-at-one-place",
+            &[lone(1).moving(1, 0), lone(2).moving(-1, 0)],
+        ),
+        small(
+            "masses-1-and-2",
+            &[lone(1).moving(1, 0), Particle { mass: 2, ..lone(2) }],
+        ),
+        small("largest-node-mass", &heaviest(lone(0))),
+        small("largest-node-momentum", &heaviest(rising)),
+        small("smallest-node-momentum", &heaviest(falling)),
+        scatter(
+            "corners-of-4-by-6",
+            Size::new(4, 6),
+            corners(Size::new(4, 6)),
+        ),
+        scatter(
+            "corners-of-48-by-4",
+            Size::new(48, 4),
+            corners(Size::new(48, 4)),
+        ),
+    ]);
+    cases
+}
+
+/// Particles at the four corners of a grid.
+fn corners(size: Size) -> Vec<u8> {
+    let (right, top) = (64 * (size.nx - 1) - 33, 64 * (size.ny - 1) - 33);
+    let at = |identifier, x, y| {
+        Particle::at_rest(identifier, 3, x, y)
+            .moving(2, -1)
+            .with_b([9, -8, 7, -6])
+    };
+    pack_records(&[
+        at(1, 32, 32),
+        at(2, right, 32),
+        at(3, 32, top),
+        at(4, right, top),
+    ])
+}
+
+/// The particle whose share of one node's momentum is the largest (or smallest) that there is.
+fn largest_momentum(sign: i128) -> Particle {
+    let share = |x: i128, node: i128| (axis_weight(x, node), (64 * node - x).abs());
+    let momentum = |&(x, y, i, j): &(i128, i128, i128, i128)| {
+        let ((wx, dx), (wy, dy)) = (share(x, i), share(y, j));
+        wx * wy * (D * MAX_VELOCITY + MAX_B * (dx + dy))
+    };
+    let places = (32..96).flat_map(|x| (32..96).map(move |y| (x, y)));
+    let nodes = |(x, y)| (0..3).flat_map(move |i| (0..3).map(move |j| (x, y, i, j)));
+    let best = places.flat_map(nodes).max_by_key(momentum);
+    let (x, y, i, j) = best.expect("some place");
+    let b = |node: i128, place: i128| sign * MAX_B * (64 * node - place).signum();
+    let v = sign * MAX_VELOCITY;
+    Particle::at_rest(0, 1, x, y)
+        .moving(v, -v)
+        .with_b([b(i, x), b(j, y), -b(i, x), -b(j, y)])
+}
+
+fn settings(gx: i128, gy: i128) -> Settings {
+    Settings::new(SMALL, gx, gy)
+}
+
+/// Buffers of a grid alone.
+fn grid_alone(grid: Grid) -> Buffers {
+    let bytes = Vec::new();
+    Buffers { bytes, grid }
+}
+
+fn update_refusals() -> Vec<Case> {
+    let mut cases = Vec::new();
+    for (name, size) in REFUSED_SIZES {
+        let operation = Operation::Update(Settings::new(size, 4097, 0));
+        let buffers = grid_alone(used_grid(SMALL));
+        cases.push(case(
+            format!("update/{name}"),
+            operation,
+            buffers,
+            Some((2, 0)),
+        ));
+    }
+    for (name, change) in REFUSED_GRIDS {
+        let mut buffers = grid_alone(used_grid(SMALL));
+        change(&mut buffers.grid);
+        let operation = Operation::Update(settings(4097, 0));
+        cases.push(case(
+            format!("update/{name}"),
+            operation,
+            buffers,
+            Some((1, 0)),
+        ));
+    }
+    for (gx, gy) in [(4097, 0), (-4097, 0), (0, 4097), (0, -4097)] {
+        let mut buffers = grid_alone(used_grid(SMALL));
+        buffers.grid.mass[0] = u64::MAX;
+        let operation = Operation::Update(settings(gx, gy));
+        let name = format!("update/gx-{gx}-gy-{gy}");
+        cases.push(case(name, operation, buffers, Some((10, 0))));
+    }
+    cases
+}
+
+/// Update of a grid whose nodes from 2 on hold the given masses and momenta, the others zero.
+fn update_nodes(
+    name: &str,
+    (gx, gy): (i128, i128),
+    nodes: &[(u64, i64, i64)],
+    stated: Option<(u32, usize)>,
+) -> Case {
+    let mut grid = Grid::zero(SMALL.nodes());
+    for (node, &(mass, x, y)) in nodes.iter().enumerate() {
+        (grid.mass[2 + node], grid.x[2 + node], grid.y[2 + node]) = (mass, x, y);
+    }
+    let operation = Operation::Update(settings(gx, gy));
+    case(
+        format!("update/{name}"),
+        operation,
+        grid_alone(grid),
+        stated,
+    )
+}
+
+/// The greatest node mass.
+const HEAVY: u64 = 1 << 43;
+
+fn update_cases() -> Vec<Case> {
+    let accepted = |name, gravity, nodes: &[_]| update_nodes(name, gravity, nodes, None);
+    let halves: Vec<(u64, i64, i64)> = (0..10).map(|p| (1, p, -p)).collect();
+    let sixths: Vec<(u64, i64, i64)> = (0..14).map(|p| (3, p, -p)).collect();
+    let half = 1 << 44;
+    vec![
+        accepted("zero", (4096, -4096), &[]),
+        accepted("halves-of-mass-1", (0, 0), &halves),
+        accepted("sixths-of-mass-3", (0, 0), &sixths),
+        accepted("gravity-skips-massless-nodes", (4096, -4096), &[(1, 0, 0)]),
+        accepted("gravity-after-rounding", (3, -3), &[(1, 2, 2), (1, -2, -2)]),
+        accepted("half-of-mass-2^43", (7, 7), &[(HEAVY, half, -half)]),
+        accepted(
+            "below-half-of-mass-2^43",
+            (7, 7),
+            &[(HEAVY, half - 1, 1 - half)],
+        ),
+    ]
+}
+
+fn update_refused_nodes() -> Vec<Case> {
+    const MIN: i64 = i64::MIN;
+    const MAX: i64 = i64::MAX;
+    let refused =
+        |name, g, nodes: &[_], number| update_nodes(name, (g, g), nodes, Some((number, 2)));
+    let last = [&[(1, 8, 8); 13][..], &[(0, 9, 0)]].concat();
+    vec![
+        refused("mass-2^43+1", 7, &[(HEAVY + 1, 0, 0)], 11),
+        refused("mass-2^64-1", 7, &[(u64::MAX, 5, 5)], 11),
+        refused("massless-x", 7, &[(0, 1, 0)], 11),
+        refused("massless-y", 7, &[(0, 0, -1)], 11),
+        refused("massless-smallest-momentum", 7, &[(0, MIN, 0)], 11),
+        refused("smallest-momentum-mass-1", 4096, &[(1, MIN, 0)], 12),
+        refused("smallest-momentum-on-y", 4096, &[(1, 0, MIN)], 12),
+        refused("smallest-momentum-mass-2^43", 4096, &[(HEAVY, MIN, 0)], 12),
+        refused("largest-momentum-mass-1", -4096, &[(1, MAX, 0)], 12),
+        refused("largest-momentum-mass-2^43", -4096, &[(HEAVY, MAX, 0)], 12),
+        refused("11-before-12-at-a-node", 0, &[(HEAVY + 1, MIN, MIN)], 11),
+        refused(
+            "12-at-a-lower-node-than-11",
+            0,
+            &[(1, MIN, 0), (0, 1, 0)],
+            12,
+        ),
+        refused(
+            "11-at-a-lower-node-than-12",
+            0,
+            &[(0, 1, 0), (1, MIN, 0)],
+            11,
+        ),
+        refused(
+            "12-on-y-before-12-later",
+            0,
+            &[(1, 0, MAX), (1, MAX, 0)],
+            12,
+        ),
+        update_nodes("refused-at-the-last-node", (0, 0), &last, Some((11, 15))),
+    ]
+}
+
+/// The last momentum of a node of mass 3 whose velocity is accepted, and the next.
+fn update_velocity_edges() -> Vec<Case> {
+    let mut cases = Vec::new();
+    for (name, velocity, g) in [
+        ("velocity-131072", 131_072, 0),
+        ("velocity-131072-gravity-along", 126_976, 4096),
+        ("velocity-131072-gravity-against", 135_168, -4096),
+    ] {
+        for (sign, way) in [(1, "up"), (-1, "down")] {
+            let (last, g) = (sign * (12 * velocity + 5), i128::from(sign) * g);
+            let next = last + sign;
+            let (accepted, refused) = (format!("{name}-{way}"), format!("{name}-{way}-passed"));
+            cases.extend([
+                update_nodes(&accepted, (g, g), &[(3, last, last)], None),
+                update_nodes(
+                    &format!("{refused}-x"),
+                    (g, g),
+                    &[(3, next, last)],
+                    Some((12, 2)),
+                ),
+                update_nodes(
+                    &format!("{refused}-y"),
+                    (g, g),
+                    &[(3, last, next)],
+                    Some((12, 2)),
+                ),
+            ]);
+        }
+    }
+    cases
+}
+
+/// A gather from the same velocities at all nodes.
+fn gather_uniform(
+    name: &str,
+    size: Size,
+    particles: &[Particle],
+    (ux, uy): (i64, i64),
+    stated: Option<(u32, usize)>,
+) -> Case {
+    let mut grid = Grid::filled(size.nodes(), 0, ux, uy);
+    grid.mass.clear();
+    let bytes = pack_records(particles);
+    let operation = Operation::Gather(size);
+    let name = format!("gather/{name}");
+    case(name, operation, Buffers { bytes, grid }, stated)
+}
+
+/// A velocity buffer by column and row.
+fn field(size: Size, velocity: impl Fn(i64, i64) -> i64) -> Vec<i64> {
+    (0..size.nodes() as i64)
+        .map(|node| velocity(node % size.nx as i64, node / size.nx as i64))
+        .collect()
+}
+
+/// A gather from the given velocities.
+fn gather_field(
+    name: &str,
+    size: Size,
+    particles: &[Particle],
+    (x, y): (Vec<i64>, Vec<i64>),
+    stated: Option<(u32, usize)>,
+) -> Case {
+    let mass = Vec::new();
+    let grid = Grid { mass, x, y };
+    let bytes = pack_records(particles);
+    let operation = Operation::Gather(size);
+    let name = format!("gather/{name}");
+    case(name, operation, Buffers { bytes, grid }, stated)
+}
+
+fn gather_refusals() -> Vec<Case> {
+    let fast = 131_073;
+    let velocities = |mut buffers: Buffers| {
+        buffers.grid.mass.clear();
+        buffers.grid.x.fill(fast);
+        buffers
+    };
+    let mut cases = Vec::new();
+    for (name, size) in REFUSED_SIZES {
+        let buffers = velocities(with_grid([0xA5; 13], SMALL));
+        let operation = Operation::Gather(size);
+        cases.push(case(
+            format!("gather/{name}"),
+            operation,
+            buffers,
+            Some((2, 0)),
+        ));
+    }
+    for (name, change) in &REFUSED_GRIDS[2..] {
+        let mut buffers = velocities(with_grid(Particle { mass: 0, ..lone(0) }.pack(), SMALL));
+        change(&mut buffers.grid);
+        let operation = Operation::Gather(SMALL);
+        cases.push(case(
+            format!("gather/{name}"),
+            operation,
+            buffers,
+            Some((1, 0)),
+        ));
+    }
+    for (name, records, stated) in refused_sets() {
+        let buffers = velocities(with_grid(records, SMALL));
+        let operation = Operation::Gather(SMALL);
+        cases.push(case(
+            format!("gather/{name}"),
+            operation,
+            buffers,
+            Some(stated),
+        ));
+    }
+    for (name, node, ux, uy) in [
+        ("node-0-x-131073", 0, fast, 0),
+        ("node-7-x--131073", 7, -fast, 0),
+        ("node-15-y-131073", 15, 0, fast),
+        ("node-3-y-smallest", 3, 0, i64::MIN),
+        ("node-3-x-largest", 3, i64::MAX, 0),
+    ] {
+        // The record would be refused too, after the nodes.
+        let (mut x, mut y) = (vec![131_072; 16], vec![-131_072; 16]);
+        (x[node], y[node]) = (ux, uy);
+        cases.push(gather_field(
+            name,
+            SMALL,
+            &[lone(1)],
+            (x, y),
+            Some((12, node)),
+        ));
+    }
+    cases
+}
+
+/// The grid of the gather cases; a coordinate is 32 to 415 on it.
+const MIDDLE: Size = Size { nx: 8, ny: 8 };
+
+fn gather_cases() -> Vec<Case> {
+    let middle = Particle::at_rest(3, 9, 192, 192);
+    let fast = (131_072, -131_072);
+    let old_state = lone(1).moving(9, 9).with_b([5; 4]);
+    let slopes = (
+        field(MIDDLE, |i, j| 700 + 300 * i - 50 * j),
+        field(MIDDLE, |i, j| 90 * i * j - 800),
+    );
+    let moving = Particle::at_rest(3, 9, 201, 183);
+    let mut cases = vec![
+        gather_uniform("empty", SMALL, &[], fast, None),
+        gather_uniform("rest", SMALL, &[old_state], (0, 0), None),
+        gather_uniform(
+            "two-at-one-place",
+            SMALL,
+            &copies(2, lone(0)),
+            (600, -900),
+            None,
+        ),
+        gather_uniform("13-x", MIDDLE, &[middle], (16_256, 0), Some((13, 0))),
+        gather_uniform("13-y", MIDDLE, &[middle], (0, -16_256), Some((13, 0))),
+        gather_uniform("63-x", MIDDLE, &[middle], (16_255, -16_255), None),
+        gather_uniform(
+            "largest-node-velocity",
+            MIDDLE,
+            &[middle],
+            fast,
+            Some((13, 0)),
+        ),
+        gather_field(
+            "offsets-of-the-place-before",
+            MIDDLE,
+            &[moving],
+            slopes,
+            None,
+        ),
+    ];
+    for u in [127, 128, 129, 383, 384] {
+        cases.push(gather_uniform(
+            &format!("v-of-{u}"),
+            MIDDLE,
+            &[middle],
+            (u, -u),
+            None,
+        ));
+    }
+    cases
+}
+
+/// Velocity −a on one side of the particle's node and a on the other gives an entry of a/16.
+fn gather_b_cases() -> Vec<Case> {
+    let across = |a: i64, place: i64| a * (place - 3).signum();
+    let along_x = |a| field(MIDDLE, |i, _| across(a, i));
+    let along_y = |a| field(MIDDLE, |_, j| across(a, j));
+    let still = || vec![0; MIDDLE.nodes()];
+    let middle = Particle::at_rest(3, 9, 192, 192);
+    let mut cases = Vec::new();
+    for size in [7, 8, 24, 32_759, 32_760] {
+        let stated = (size == 32_760).then_some((14, 0));
+        for a in [size, -size] {
+            for (entry, field) in [
+                ("Bxx", (along_x(a), still())),
+                ("Bxy", (along_y(a), still())),
+                ("Byx", (still(), along_x(a))),
+                ("Byy", (still(), along_y(a))),
+            ] {
+                let name = format!("{entry}-of-{a}-16ths");
+                cases.push(gather_field(&name, MIDDLE, &[middle], field, stated));
+            }
+        }
+    }
+    cases
+}
+
+fn gather_place_cases() -> Vec<Case> {
+    let mut cases = Vec::new();
+    for (place, v) in [
+        (33, -1),
+        (33, -2),
+        (95, -63),
+        (94, -63),
+        (414, 1),
+        (414, 2),
+        (352, 63),
+        (353, 63),
+    ] {
+        let moved = place + i128::from(v);
+        let stated = (!(32..=415).contains(&moved)).then_some((15, 0));
+        let along_x = Particle::at_rest(3, 9, place, 200);
+        let name = format!("x-{place}-v-{v}");
+        cases.push(gather_uniform(
+            &name,
+            MIDDLE,
+            &[along_x],
+            (256 * v, 0),
+            stated,
+        ));
+        let along_y = Particle::at_rest(3, 9, 200, place);
+        let name = format!("y-{place}-v-{v}");
+        cases.push(gather_uniform(
+            &name,
+            MIDDLE,
+            &[along_y],
+            (0, 256 * v),
+            stated,
+        ));
+    }
+    cases
+}
+
+/// 13, 14, 15 at one record in this order, the lowest record first, and no record moved.
+fn gather_order_cases() -> Vec<Case> {
+    let edge = Particle::at_rest(1, 1, 32, 200);
+    let middle = Particle::at_rest(2, 1, 200, 200);
+    let late_edge = Particle {
+        identifier: 3,
+        ..edge
+    };
+    let still = vec![0; MIDDLE.nodes()];
+    let steep = field(MIDDLE, |i, _| if i == 0 { -80_000 } else { 60_000 });
+    let steeper = field(MIDDLE, |i, _| if i == 0 { -130_000 } else { 60_000 });
+    vec![
+        gather_field(
+            "13-before-14-and-15",
+            MIDDLE,
+            &[edge],
+            (steeper, still.clone()),
+            Some((13, 0)),
+        ),
+        gather_field(
+            "14-before-15",
+            MIDDLE,
+            &[edge],
+            (steep, still),
+            Some((14, 0)),
+        ),
+        gather_uniform(
+            "13-before-15",
+            MIDDLE,
+            &[edge],
+            (-131_072, 0),
+            Some((13, 0)),
+        ),
+        gather_uniform(
+            "15-at-record-0",
+            MIDDLE,
+            &[edge, middle],
+            (-256, 0),
+            Some((15, 0)),
+        ),
+        gather_uniform(
+            "15-at-record-1",
+            MIDDLE,
+            &[middle, late_edge],
+            (-256, 0),
+            Some((15, 1)),
+        ),
+    ]
+}

@@ -1,0 +1,138 @@
+//! Calls of every operation of document 01 with their answers by the reference, one per line.
+//!
+//! # A line
+//!
+//! `NAME | OPERATION | BUFFERS | ANSWER | BUFFERS AFTER`
+//!
+//! - NAME is `operation/case`; a call of a list is `list/case/number`, and gets the records that the
+//!   call before left.
+//! - OPERATION is the operation and the numbers that it is given, each after its name.
+//! - BUFFERS are those that the operation is given, each after its name, and BUFFERS AFTER those of
+//!   them that it changed, or `unchanged`.
+//!   - `bytes` and `header` are hexadecimal, a part of equal bytes as `XX*COUNT`.
+//!   - `records` are `[identifier mass x y vx vy Bxx Bxy Byx Byy]` one after another, whatever
+//!     their bits hold; `[5..9 ..]` are records that differ in their rising identifiers alone, `[..]*COUNT`
+//!     are equal ones; bytes after the last whole record are `+` and hexadecimal.
+//!   - `mass`, `x`, `y` are the grid buffers in the order of the nodes, numbers with a comma between,
+//!     equal ones as `NUMBER*COUNT`; for gather, `x` and `y` are the velocity buffers.
+//!   - `none` is a buffer of no length.
+//! - ANSWER is `refused R at P`, or `ok` with what the operation hands back; for run it is
+//!   `done N refusal R at P`, for the program its text with `\n` for each line feed.
+
+#![forbid(unsafe_code)]
+#![warn(missing_docs)]
+
+mod cases;
+mod text;
+
+use reference::report::program;
+use reference::{
+    check_set, gather, read_file, read_record, run, scatter, step, totals, update, weights,
+    write_header, write_record,
+};
+use reference::{Grid, Header, Particle, Refusal, RunAnswer, Settings, Size, Totals};
+
+pub use cases::cases;
+
+/// An operation with the numbers that it is given.
+#[derive(Clone, Copy, Debug, PartialEq, Eq)]
+#[allow(missing_docs)]
+pub enum Operation {
+    ReadRecord,
+    WriteRecord(Particle),
+    CheckSet(Size),
+    Totals(Size),
+    Weights(i128),
+    Scatter(Size),
+    Update(Settings),
+    Gather(Size),
+    Step(Settings),
+    Run(Settings, i128),
+    ReadFile,
+    WriteHeader(Header),
+    Program,
+}
+
+/// The buffers of a call; those that its operation does not take are empty.
+#[derive(Clone, Debug, PartialEq, Eq)]
+pub struct Buffers {
+    /// A record, the records of a set, a file, or a buffer to write to.
+    pub bytes: Vec<u8>,
+    /// Node masses, and momenta or velocities.
+    pub grid: Grid,
+}
+
+/// What an operation answers.
+#[derive(Clone, Debug, PartialEq, Eq)]
+#[allow(missing_docs)]
+pub enum Answer {
+    Refused(Refusal),
+    Done,
+    Particle(Particle),
+    Count(usize),
+    Totals(Totals),
+    Weights([i128; 3]),
+    Ran(RunAnswer),
+    Header(Header),
+    Text(String),
+}
+
+impl Answer {
+    /// The refusal in the answer, if there is one.
+    pub fn refusal(&self) -> Option<Refusal> {
+        match self {
+            Answer::Refused(refusal) => Some(*refusal),
+            Answer::Ran(answer) => answer.refusal,
+            _ => None,
+        }
+    }
+}
+
+/// A call with its answer and the buffers that it leaves.
+#[derive(Clone, Debug, PartialEq, Eq)]
+pub struct Case {
+    /// `operation/case`, different for each case.
+    pub name: String,
+    /// The operation and its numbers.
+    pub operation: Operation,
+    /// The buffers before the call.
+    pub before: Buffers,
+    /// The answer by the reference.
+    pub answer: Answer,
+    /// The buffers after the call by the reference.
+    pub after: Buffers,
+    /// The refusal written down with the case, to hold against the answer; worked out from document
+    /// 01 but for `run/stopped-at-its-6th-step-by-14` and `list/spreading/6`, where the reference
+    /// gave it.
+    pub stated: Option<Refusal>,
+}
+
+/// The answer of the reference; the buffers are left as the operation leaves them.
+pub fn perform(operation: Operation, buffers: &mut Buffers) -> Answer {
+    let Buffers { bytes, grid } = buffers;
+    let answer = match operation {
+        Operation::ReadRecord => read_record(bytes).map(Answer::Particle),
+        Operation::WriteRecord(particle) => write_record(&particle, bytes).map(|()| Answer::Done),
+        Operation::CheckSet(size) => check_set(size, bytes).map(Answer::Count),
+        Operation::Totals(size) => totals(size, bytes).map(Answer::Totals),
+        Operation::Weights(q) => weights(q).map(Answer::Weights),
+        Operation::Scatter(size) => {
+            scatter(size, bytes, &mut grid.buffers()).map(|()| Answer::Done)
+        }
+        Operation::Update(settings) => update(settings, &mut grid.buffers()).map(|()| Answer::Done),
+        Operation::Gather(size) => gather(size, bytes, &grid.x, &grid.y).map(|()| Answer::Done),
+        Operation::Step(settings) => {
+            step(settings, bytes, &mut grid.buffers()).map(|()| Answer::Done)
+        }
+        Operation::Run(settings, steps) => Ok(Answer::Ran(run(
+            settings,
+            steps,
+            bytes,
+            &mut grid.buffers(),
+        ))),
+        Operation::ReadFile => read_file(bytes).map(Answer::Header),
+        Operation::WriteHeader(header) => write_header(&header, bytes).map(|()| Answer::Done),
+        Operation::Program => Ok(Answer::Text(program(bytes))),
+    };
+    answer.unwrap_or_else(Answer::Refused)
+}

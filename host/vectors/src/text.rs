@@ -1,0 +1,205 @@
+//! Cases as lines of text.
+
+use std::fmt::{self, Display, Formatter};
+
+use reference::limits::{HEADER_LENGTH, RECORD_LENGTH};
+use reference::{Header, Particle, RunAnswer, Settings, Size};
+
+use crate::{Answer, Buffers, Case, Operation};
+
+impl Display for Case {
+    fn fmt(&self, f: &mut Formatter) -> fmt::Result {
+        let before = named_buffers(&self.operation, &self.before);
+        let mut changed = named_buffers(&self.operation, &self.after);
+        changed.retain(|buffer| !before.contains(buffer));
+        let after = buffers_text(&changed, "unchanged");
+        let before = buffers_text(&before, "none");
+        let (name, operation, answer) = (&self.name, &self.operation, &self.answer);
+        write!(f, "{name} | {operation} | {before} | {answer} | {after}")
+    }
+}
+
+fn size_text(size: Size) -> String {
+    format!("nx {} ny {}", size.nx, size.ny)
+}
+
+fn settings_text(settings: Settings) -> String {
+    let Settings { size, gx, gy } = settings;
+    format!("{} gx {gx} gy {gy}", size_text(size))
+}
+
+fn header_text(header: &Header) -> String {
+    let settings = settings_text(header.settings);
+    format!("{settings} count {} steps {}", header.count, header.steps)
+}
+
+fn particle_text(particle: &Particle) -> String {
+    let names = reference::particle::LAYOUT.map(|field| field.name);
+    let fields = names.iter().zip(particle.fields());
+    let words: Vec<String> = fields.map(|(name, n)| format!("{name} {n}")).collect();
+    words.join(" ")
+}
+
+impl Display for Operation {
+    fn fmt(&self, f: &mut Formatter) -> fmt::Result {
+        match *self {
+            Operation::ReadRecord => write!(f, "read-record"),
+            Operation::WriteRecord(ref p) => write!(f, "write-record {}", particle_text(p)),
+            Operation::CheckSet(size) => write!(f, "check-set {}", size_text(size)),
+            Operation::Totals(size) => write!(f, "totals {}", size_text(size)),
+            Operation::Weights(q) => write!(f, "weights q {q}"),
+            Operation::Scatter(size) => write!(f, "scatter {}", size_text(size)),
+            Operation::Update(settings) => write!(f, "update {}", settings_text(settings)),
+            Operation::Gather(size) => write!(f, "gather {}", size_text(size)),
+            Operation::Step(settings) => write!(f, "step {}", settings_text(settings)),
+            Operation::Run(settings, steps) => {
+                write!(f, "run {} steps {steps}", settings_text(settings))
+            }
+            Operation::ReadFile => write!(f, "read-file"),
+            Operation::WriteHeader(ref h) => write!(f, "write-header {}", header_text(h)),
+            Operation::Program => write!(f, "program"),
+        }
+    }
+}
+
+impl Display for Answer {
+    fn fmt(&self, f: &mut Formatter) -> fmt::Result {
+        match self {
+            Answer::Refused(refusal) => {
+                write!(f, "refused {} at {}", refusal.number, refusal.place)
+            }
+            Answer::Done => write!(f, "ok"),
+            Answer::Particle(particle) => write!(f, "ok {}", particle_text(particle)),
+            Answer::Count(count) => write!(f, "ok {count}"),
+            Answer::Totals(t) => write!(
+                f,
+                "ok mass {} px {} py {} spin {} motion {}",
+                t.mass, t.px, t.py, t.angular_momentum, t.motion
+            ),
+            Answer::Weights([lower, nearest, upper]) => write!(f, "ok {lower} {nearest} {upper}"),
+            Answer::Ran(RunAnswer { completed, refusal }) => {
+                let (number, place) = refusal.map_or((0, 0), |r| (r.number, r.place));
+                write!(f, "done {completed} refusal {number} at {place}")
+            }
+            Answer::Header(header) => write!(f, "ok {}", header_text(header)),
+            Answer::Text(text) => write!(f, "{}", text.replace('\n', "\\n")),
+        }
+    }
+}
+
+/// The items with equal neighbours as one and a count.
+fn runs<T: PartialEq + Copy>(items: &[T]) -> Vec<(T, usize)> {
+    items
+        .chunk_by(|a, b| a == b)
+        .map(|run| (run[0], run.len()))
+        .collect()
+}
+
+fn run_text(item: String, count: usize) -> String {
+    if count > 1 {
+        format!("{item}*{count}")
+    } else {
+        item
+    }
+}
+
+fn or_none(text: String) -> String {
+    if text.is_empty() {
+        "none".to_string()
+    } else {
+        text
+    }
+}
+
+fn bytes_text(bytes: &[u8]) -> String {
+    let words = runs(bytes)
+        .into_iter()
+        .map(|(byte, count)| run_text(format!("{byte:02X}"), count));
+    or_none(words.collect::<Vec<_>>().join(" "))
+}
+
+fn numbers_text<T: PartialEq + Copy + Display>(numbers: &[T]) -> String {
+    let words = runs(numbers)
+        .into_iter()
+        .map(|(number, count)| run_text(number.to_string(), count));
+    or_none(words.collect::<Vec<_>>().join(","))
+}
+
+/// Whether b is a with the next identifier.
+fn follows(a: &Particle, b: &Particle) -> bool {
+    let identifier = b.identifier;
+    a.identifier.checked_add(1) == Some(identifier) && Particle { identifier, ..*a } == *b
+}
+
+fn records_text(bytes: &[u8]) -> String {
+    let records = bytes.chunks_exact(RECORD_LENGTH);
+    let surplus = records.remainder();
+    let particles: Vec<Particle> = records
+        .map(|record| Particle::unpack(record.try_into().expect("a whole record")))
+        .collect();
+    let groups: Vec<String> = particles.chunk_by(follows).map(group_text).collect();
+    let equal = groups.chunk_by(|a, b| a == b);
+    let mut words: Vec<String> = equal
+        .map(|run| run_text(run[0].clone(), run.len()))
+        .collect();
+    if !surplus.is_empty() {
+        words.push(format!("+{}", bytes_text(surplus)));
+    }
+    or_none(words.join(" "))
+}
+
+/// Records that differ in their rising identifiers alone.
+fn group_text(group: &[Particle]) -> String {
+    let fields = group[0].fields().map(|field| field.to_string());
+    let last = group[group.len() - 1].identifier;
+    let last = if group.len() > 1 {
+        format!("..{last}")
+    } else {
+        String::new()
+    };
+    format!("[{}{last} {}]", fields[0], fields[1..].join(" "))
+}
+
+/// A buffer's name and contents.
+type NamedBuffer = (&'static str, String);
+
+fn file_buffers(file: &[u8]) -> Vec<NamedBuffer> {
+    if file.len() <= HEADER_LENGTH {
+        return vec![("bytes", bytes_text(file))];
+    }
+    let (header, records) = file.split_at(HEADER_LENGTH);
+    vec![
+        ("header", bytes_text(header)),
+        ("records", records_text(records)),
+    ]
+}
+
+/// The buffers that an operation is given.
+fn named_buffers(operation: &Operation, buffers: &Buffers) -> Vec<NamedBuffer> {
+    let Buffers { bytes, grid } = buffers;
+    let records = ("records", records_text(bytes));
+    let mass = ("mass", numbers_text(&grid.mass));
+    let (x, y) = (("x", numbers_text(&grid.x)), ("y", numbers_text(&grid.y)));
+    match operation {
+        Operation::Weights(_) => vec![],
+        Operation::ReadRecord | Operation::WriteRecord(_) | Operation::WriteHeader(_) => {
+            vec![("bytes", bytes_text(bytes))]
+        }
+        Operation::ReadFile | Operation::Program => file_buffers(bytes),
+        Operation::CheckSet(_) | Operation::Totals(_) => vec![records],
+        Operation::Update(_) => vec![mass, x, y],
+        Operation::Gather(_) => vec![records, x, y],
+        Operation::Scatter(_) | Operation::Step(_) | Operation::Run(..) => {
+            vec![records, mass, x, y]
+        }
+    }
+}
+
+/// The buffers as text, or the given word where there are none.
+fn buffers_text(buffers: &[NamedBuffer], without: &str) -> String {
+    if buffers.is_empty() {
+        return without.to_string();
+    }
+    let words = buffers.iter().map(|(name, text)| format!("{name} {text}"));
+    words.collect::<Vec<_>>().join(" ")
+}

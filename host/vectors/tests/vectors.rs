@@ -1,0 +1,115 @@
+//! The cases are what they say, and cover every refusal.
+
+use std::collections::{BTreeMap, BTreeSet};
+
+use vectors::{cases, Answer, Case, Operation};
+
+/// The refusals that document 01 lists for each operation.
+const LISTED: [(&str, &[u32]); 12] = [
+    ("read-record", &[1, 4, 5, 6]),
+    ("write-record", &[1, 4, 5, 6, 7]),
+    ("check-set", &[1, 2, 4, 5, 6, 7, 8, 9]),
+    ("totals", &[1, 2, 4, 5, 6, 7, 8, 9]),
+    ("weights", &[7]),
+    ("scatter", &[1, 2, 4, 5, 6, 7, 8, 9]),
+    ("update", &[1, 2, 10, 11, 12]),
+    ("gather", &[1, 2, 4, 5, 6, 7, 8, 9, 12, 13, 14, 15]),
+    ("step", &[1, 2, 4, 5, 6, 7, 8, 9, 10, 13, 14, 15]),
+    ("run", &[1, 2, 4, 5, 6, 7, 8, 9, 10, 13, 14, 15, 17]),
+    ("read-file", &[1, 2, 3, 4, 5, 6, 7, 8, 9, 10, 16, 17]),
+    ("write-header", &[1, 2, 3, 10, 17]),
+];
+
+fn group(case: &Case) -> &str {
+    case.name.split('/').next().expect("a name")
+}
+
+#[test]
+fn refusals_are_those_stated() {
+    for case in cases() {
+        assert_eq!(case.answer.refusal(), case.stated, "{}", case.name);
+    }
+}
+
+#[test]
+fn names_differ() {
+    let cases = cases();
+    let names: BTreeSet<&str> = cases.iter().map(|case| case.name.as_str()).collect();
+    assert_eq!(names.len(), cases.len());
+}
+
+#[test]
+fn one_line_each() {
+    for case in cases() {
+        let line = case.to_string();
+        assert!(line.is_ascii() && !line.contains('\n'), "{}", case.name);
+        assert_eq!(line.matches(" | ").count(), 4, "{}", case.name);
+    }
+}
+
+#[test]
+fn every_listed_refusal_and_no_other() {
+    let mut seen: BTreeMap<String, BTreeSet<u32>> = BTreeMap::new();
+    for case in cases() {
+        let numbers = seen.entry(group(&case).to_string()).or_default();
+        numbers.extend(case.answer.refusal().map(|refusal| refusal.number));
+    }
+    for (operation, numbers) in LISTED {
+        let seen: Vec<u32> = seen[operation].iter().copied().collect();
+        assert_eq!(seen, numbers, "{operation}");
+    }
+}
+
+#[test]
+fn every_operation_accepts_something() {
+    for (operation, _) in LISTED {
+        let accepted = |case: &Case| group(case) == operation && case.answer.refusal().is_none();
+        assert!(cases().iter().any(accepted), "{operation}");
+    }
+}
+
+/// Only a step that was tried may leave its grid with a refusal, and a run its completed steps.
+#[test]
+fn refused_calls_change_nothing() {
+    for case in cases() {
+        let Some(refusal) = case.answer.refusal() else {
+            continue;
+        };
+        let tried = (13..=15).contains(&refusal.number);
+        match case.operation {
+            Operation::Step(_) if tried => assert_eq!(case.after.bytes, case.before.bytes),
+            Operation::Run(..) if tried => {}
+            _ => assert_eq!(case.after, case.before, "{}", case.name),
+        }
+    }
+}
+
+#[test]
+fn calls_of_a_list_follow_each_other() {
+    let cases = cases();
+    for pair in cases.windows(2) {
+        let list = |case: &Case| case.name.rsplit_once('/').map(|(list, _)| list.to_string());
+        if group(&pair[0]) == "list" && list(&pair[0]) == list(&pair[1]) {
+            assert_eq!(pair[0].after.bytes, pair[1].before.bytes);
+        }
+    }
+}
+
+#[test]
+fn stopped_runs() {
+    let completed = |name: &str| {
+        let cases = cases();
+        let case = cases.iter().find(|case| case.name == name);
+        match case.expect("a case of this name").answer {
+            Answer::Ran(answer) => answer.completed,
+            _ => panic!("{name} is no run"),
+        }
+    };
+    assert_eq!(completed("run/stopped-at-its-1st-step-by-14"), 0);
+    assert_eq!(completed("run/stopped-at-its-1st-step-by-15"), 0);
+    assert_eq!(completed("run/stopped-at-its-6th-step-by-14"), 5);
+    assert_eq!(completed("run/stopped-at-its-46th-step-by-15"), 45);
+    assert_eq!(completed("run/stopped-at-its-64th-step-by-13"), 63);
+    assert_eq!(completed("run/0-steps-of-what-would-stop"), 0);
+    assert_eq!(completed("run/10000-steps-of-nothing"), 10_000);
+}
