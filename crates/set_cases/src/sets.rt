@@ -128,8 +128,9 @@ fn too_long() {
     case(b"57358 bytes", 4, 4, &set);
 }
 
-// A set of two: document 01's example, and the record given.
-fn second(name: &[u8], record: &[u8; RECORD_LENGTH]) {
+// A set of two: document 01's example, and a record by its first and its last seven bytes.
+fn second(name: &[u8], first: u64, last: u64) {
+    let record = reading::record_of(first, last);
     let set = [
         0x00,
         0x07,
@@ -164,54 +165,21 @@ fn second(name: &[u8], record: &[u8; RECORD_LENGTH]) {
 }
 
 fn seconds() {
-    second(
-        b"second identifier 8",
-        b"\x00\x08\x00\x81\x00\x10\x01\xfe\x00\x00\x00\x00\x00\x00",
-    );
-    second(
-        b"second mass 0",
-        b"\x00\x08\x00\x01\x00\x10\x01\xfe\x00\x00\x00\x00\x00\x00",
-    );
-    second(
-        b"second vy -64",
-        b"\x00\x08\x00\x81\x00\x10\x01\xc0\x00\x00\x00\x00\x00\x00",
-    );
-    second(
-        b"second Byy -2048",
-        b"\x00\x08\x00\x81\x00\x10\x01\xfe\x00\x00\x00\x00\x08\x00",
-    );
-    second(
-        b"second x 31",
-        b"\x00\x08\x00\x80\x7c\x10\x01\xfe\x00\x00\x00\x00\x00\x00",
-    );
-    second(
-        b"second identifier 7",
-        b"\x00\x07\x00\x81\x00\x10\x01\xfe\x00\x00\x00\x00\x00\x00",
-    );
-    second(
-        b"second identifier 6",
-        b"\x00\x06\x00\x81\x00\x10\x01\xfe\x00\x00\x00\x00\x00\x00",
-    );
+    second(b"second identifier 8", 0x00080081001001, 0xfe000000000000);
+    second(b"second mass 0", 0x00080001001001, 0xfe000000000000);
+    second(b"second vy -64", 0x00080081001001, 0xc0000000000000);
+    second(b"second Byy -2048", 0x00080081001001, 0xfe000000000800);
+    second(b"second x 31", 0x000800807c1001, 0xfe000000000000);
+    second(b"second identifier 7", 0x00070081001001, 0xfe000000000000);
+    second(b"second identifier 6", 0x00060081001001, 0xfe000000000000);
 }
 
 // Several limits broken: the lowest record first, and at one record the order of document 01's list.
 fn order() {
-    second(
-        b"second breaks 4 to 8",
-        b"\x00\x07\x00\x00\x7c\x10\x20\x7e\x80\x00\x00\x00\x00\x00",
-    );
-    second(
-        b"second breaks 5 to 8",
-        b"\x00\x07\x00\x80\x7c\x10\x20\x7e\x80\x00\x00\x00\x00\x00",
-    );
-    second(
-        b"second breaks 6 to 8",
-        b"\x00\x07\x00\x80\x7c\x10\x01\xfe\x80\x00\x00\x00\x00\x00",
-    );
-    second(
-        b"second breaks 7 and 8",
-        b"\x00\x07\x00\x80\x7c\x10\x01\xfe\x00\x00\x00\x00\x00\x00",
-    );
+    second(b"second breaks 4 to 8", 0x000700007c1020, 0x7e800000000000);
+    second(b"second breaks 5 to 8", 0x000700807c1020, 0x7e800000000000);
+    second(b"second breaks 6 to 8", 0x000700807c1001, 0xfe800000000000);
+    second(b"second breaks 7 and 8", 0x000700807c1001, 0xfe000000000000);
     case(
         b"first breaks 6, second 4",
         4,
