@@ -6,3 +6,7 @@ pub mod Chains
 pub mod Calls
 pub mod Conserved
 mod Example
+pub mod Particles
+pub mod Turns
+pub mod Runs
+pub mod Entry

@@ -55,6 +55,9 @@ pub record Grids : Type 0 where
   pub x : List ℤ
   pub y : List ℤ
 
+abbrev pub gridsOf : List ℕ → List ℤ → List ℤ → Grids
+gridsOf mass x y = record { mass = mass; x = x; y = y }
+
 -- "the grid holds masses and updated velocities of the last step tried"
 abbrev pub nodesOf : Settings → List Particle → Grids
 nodesOf s ps = record { mass = masses s ps; x = updatedVelocities s alongX ps; y = updatedVelocities s alongY ps }
