@@ -16,7 +16,7 @@ ghost use Rattle.packing.specs.Internal.{placed, RecordAt, ParticleAt, U
 pub const NUMBERS: usize = 10;
 
 // The numbers of a particle, in the order of its record's fields.
-fn numbers_of(p: Particle) -> [i64; NUMBERS]
+pub fn numbers_of(p: Particle) -> [i64; NUMBERS]
     ensures { λ r. ⌜ r ≡ numbers p ⌝ }
 {
     [

@@ -38,8 +38,8 @@ pub enum Written {
     Refused(Refusal),
 }
 
-// The particle that a record holds. `read_at` calls it with a record of the right length.
-fn unpack(bytes: &[u8]) -> Particle
+// The particle that a record of the right length holds, valid or not. `read_at` calls it, and whoever prints a record.
+pub fn unpack(bytes: &[u8]) -> Particle
     requires { ⌜ length (now bytes) ≡ recordLength ⌝ }
     ensures { λ r. ⌜ r ≡ particleOf (now (bytes .entry)) ⌝ }
 {

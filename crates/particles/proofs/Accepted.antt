@@ -99,7 +99,7 @@ accepted-limits nx ny bytes {ps} e =
 
 -- ---- the bytes are the records
 
-small-part : (bytes : List ℕ) (n m : ℕ) → ((i : ℕ) → getD bytes i 0 < 256) → (i : ℕ) → getD (take n (drop m bytes)) i 0 < 256
+pub small-part : (bytes : List ℕ) (n m : ℕ) → ((i : ℕ) → getD bytes i 0 < 256) → (i : ℕ) → getD (take n (drop m bytes)) i 0 < 256
 small-part bytes n m small i = go (decLt i n)
   where
     past : n ≤ i → length (take n (drop m bytes)) ≤ i

@@ -50,14 +50,14 @@ pub enum Next {
     Refused(Refusal),
 }
 
-// Numbers of a particle as they enter the sums.
+// Numbers of a particle as they enter the sums, and the report.
 fn unsigned(n: u16) -> i64
     ensures { λ r. ⌜ (r ≡ pos n) × (n < 65536) ⌝ }
 {
     n as i64
 }
 
-fn signed(n: i16) -> i64
+pub fn signed(n: i16) -> i64
     ensures { λ r. ⌜ r ≡ n ⌝ }
 {
     n as i64

@@ -1,0 +1,4 @@
+pub mod Coding
+pub mod Places
+pub mod Accepted
+pub mod Running

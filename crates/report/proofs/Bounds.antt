@@ -1,0 +1,161 @@
+-- Every report fits the buffer: 36 bytes for a refused file's line, 62 and 128 for the first two lines of a run's, and 53 for
+-- each record. Assumes nothing.
+use Prim.Native.Nat.{ℕ, zero, suc, _+_, _*_, _/_, _^_, _≤_, _<_}
+use native.Mathlib.Omega.{arith}
+use mathlib.Core.Path.{_≡_, refl, ap, _∙_}
+use mathlib.Core.Bool.{true}
+use mathlib.Core.List.{List, [], _∷_, _++_, map}
+use lib.Dec.{lit≤}
+use lib.IntN.{ℤ, pos, negsuc, natAbs}
+use lib.Signed.{mag, natAbs-le}
+use lib.ListN.{length, length-append}
+use Rattle.arith.specs.Sums.{from, upTo}
+use Rattle.particle.specs.declared.Particle.{Particle}
+use Rattle.particle.specs.Bits.{cut, join, widths}
+use Rattle.particle.specs.Layout.{layout, byteWidths}
+use Rattle.particle.specs.Record.{particleOf}
+use Rattle.particle.proofs.Parts.{cut-below}
+use Rattle.particle.proofs.Signed.{decoded-mag}
+use Rattle.particles.specs.declared.Totals.{Totals}
+use Rattle.particles.specs.Set.{recordAt, recordCount, validLength}
+use Rattle.particles.proofs.Checks.{length-limits}
+use Rattle.report.specs.Decimal.{bytesOf, decimal, signed}
+use Rattle.report.specs.Lines.{line, refusedLine, doneLine, totalsLine, particleLine, particleLines}
+use Rattle.report.specs.Internal.{Room, linesUpTo}
+use Rattle.report.specs.Report.{runText, reportLength}
+use Rattle.report.proofs.Digits.{decimal-length}
+
+-- ---- a line, by bounds on its words
+
+abbrev Within : List (List ℕ) → List ℕ → Type 0
+Within [] [] = Unit {0}
+Within [] (b ∷ bs) = ⊥
+Within (w ∷ ws) [] = ⊥
+Within (w ∷ ws) (b ∷ bs) = (length w ≤ b) × Within ws bs
+
+-- each word, and the byte behind it
+abbrev most : List ℕ → ℕ
+most [] = 1
+most (b ∷ []) = b + 1
+most (b ∷ c ∷ bs) = b + 1 + most (c ∷ bs)
+
+line-length : (ws : List (List ℕ)) (bs : List ℕ) → Within ws bs → length (line ws) ≤ most bs
+line-length [] [] h = omega arith
+line-length [] (b ∷ bs) h = absurd h
+line-length (w ∷ ws) [] h = absurd h
+line-length (w ∷ []) (b ∷ []) h = omega (arith, length-append w (10 ∷ []), h .0)
+line-length (w ∷ []) (b ∷ c ∷ bs) h = absurd (h .1)
+line-length (w ∷ v ∷ ws) (b ∷ []) h = absurd (h .1)
+line-length (w ∷ v ∷ ws) (b ∷ c ∷ bs) h = omega (arith, length-append w (32 ∷ line (v ∷ ws)), h .0, line-length (v ∷ ws) (c ∷ bs) (h .1))
+
+signed-length : (k : ℕ) (z : ℤ) → natAbs z < 10 ^ suc k → length (signed z) ≤ suc (suc k)
+unfolding signed
+signed-length k (pos n) h = omega (arith, decimal-length k n h)
+signed-length k (negsuc n) h = omega (arith, decimal-length k (suc n) h)
+
+-- ---- the first lines
+
+pub refused-length : (n k : ℕ) → n < 256 → k < 2 ^ 64 → length (refusedLine n k) ≤ 36
+unfolding refusedLine
+refused-length n k h g =
+    line-length (bytesOf "refused" ∷ decimal n ∷ bytesOf "at" ∷ decimal k ∷ []) (7 ∷ 3 ∷ 2 ∷ 20 ∷ [])
+    (lit≤ tt, (decimal-length 2 n (omega arith), (lit≤ tt, (decimal-length 19 k (omega arith), tt))))
+
+done-length : (c n k : ℕ) → c < 2 ^ 64 → n < 256 → k < 2 ^ 64 → length (doneLine c n k) ≤ 62
+unfolding doneLine
+done-length c n k f h g =
+    line-length (bytesOf "done" ∷ decimal c ∷ bytesOf "refusal" ∷ decimal n ∷ bytesOf "at" ∷ decimal k ∷ []) (4 ∷ 20 ∷ 7 ∷ 3 ∷ 2 ∷ 20 ∷ [])
+    (lit≤ tt, (decimal-length 19 c (omega arith), (lit≤ tt, (decimal-length 2 n (omega arith), (lit≤ tt, (decimal-length 19 k (omega arith), tt))))))
+
+-- the totals are 64-bit numbers
+pub record TotalsFit (t : Totals) : Type 0 where
+  pub mass : t .mass < 2 ^ 64
+  pub px : mag (t .px) < 2 ^ 63
+  pub py : mag (t .py) < 2 ^ 63
+  pub spin : mag (t .spin) < 2 ^ 63
+  pub motion : mag (t .motion) < 2 ^ 63
+
+wide : (z : ℤ) → mag z < 2 ^ 63 → length (signed z) ≤ 20
+wide z h = signed-length 18 z (omega (arith, natAbs-le z h))
+
+totals-length : (t : Totals) → TotalsFit t → length (totalsLine t) ≤ 128
+unfolding totalsLine
+totals-length t f =
+    line-length
+    (bytesOf "mass" ∷ decimal (t .mass) ∷ bytesOf "px" ∷ signed (t .px) ∷ bytesOf "py" ∷ signed (t .py) ∷ bytesOf "spin" ∷ signed (t .spin) ∷ bytesOf "motion" ∷ signed (t .motion) ∷ [])
+    (4 ∷ 20 ∷ 2 ∷ 20 ∷ 2 ∷ 20 ∷ 4 ∷ 20 ∷ 6 ∷ 20 ∷ [])
+    (lit≤ tt, (decimal-length 19 (t .mass) (omega (arith, f .mass)), (lit≤ tt, (wide (t .px) (f .px), (lit≤ tt, (wide (t .py) (f .py), (lit≤ tt, (wide (t .spin) (f .spin), (lit≤ tt, (wide (t .motion) (f .motion), tt))))))))))
+
+-- ---- records
+
+velocity : (z : ℤ) → mag z < 64 → length (signed z) ≤ 3
+velocity z h = signed-length 1 z (omega (arith, natAbs-le z h))
+
+affine : (z : ℤ) → mag z < 2048 → length (signed z) ≤ 5
+affine z h = signed-length 3 z (omega (arith, natAbs-le z h))
+
+particle-length : (bytes : List ℕ) → length (particleLine (particleOf bytes)) ≤ 53
+unfolding particleLine particleOf
+particle-length bytes =
+    let p = particleOf bytes in
+    let d = cut-below (widths layout) (join byteWidths bytes) in
+    line-length
+    (decimal (p .identifier) ∷ decimal (p .mass) ∷ decimal (p .x) ∷ decimal (p .y) ∷ signed (p .vx) ∷ signed (p .vy) ∷ signed (p .bxx) ∷ signed (p .bxy) ∷ signed (p .byx) ∷ signed (p .byy) ∷ [])
+    (5 ∷ 4 ∷ 4 ∷ 4 ∷ 3 ∷ 3 ∷ 5 ∷ 5 ∷ 5 ∷ 5 ∷ []) (
+      decimal-length 4 (p .identifier) (omega (arith, d .0)),
+      (
+        decimal-length 3 (p .mass) (omega (arith, d .1 .0)),
+        (
+          decimal-length 3 (p .x) (omega (arith, d .1 .1 .0)),
+          (
+            decimal-length 3 (p .y) (omega (arith, d .1 .1 .1 .0)),
+            (
+              velocity (p .vx) (decoded-mag 64 _ (d .1 .1 .1 .1 .0)),
+              (
+                velocity (p .vy) (decoded-mag 64 _ (d .1 .1 .1 .1 .1 .0)),
+                (
+                  affine (p .bxx) (decoded-mag 2048 _ (d .1 .1 .1 .1 .1 .1 .0)),
+                  (
+                    affine (p .bxy) (decoded-mag 2048 _ (d .1 .1 .1 .1 .1 .1 .1 .0)),
+                    (
+                      affine (p .byx) (decoded-mag 2048 _ (d .1 .1 .1 .1 .1 .1 .1 .1 .0)),
+                      (affine (p .byy) (decoded-mag 2048 _ (d .1 .1 .1 .1 .1 .1 .1 .1 .1 .0)), tt),
+                    ),
+                  ),
+                ),
+              ),
+            ),
+          ),
+        ),
+      ),
+    )
+
+from-length : (i n : ℕ) → length (from i n) ≡ n
+from-length i zero = refl
+from-length i (suc n) = ap suc (from-length (suc i) n)
+
+lines-length : (records ks : List ℕ) → length (particleLines (map (λ k. particleOf (recordAt 0 records k)) ks)) ≤ 53 * length ks
+unfolding particleLines
+lines-length records [] = omega arith
+lines-length records (k ∷ ks) =
+    let p = particleOf (recordAt 0 records k) in
+    omega (arith, length-append (particleLine p) (particleLines (map (λ k. particleOf (recordAt 0 records k)) ks)), particle-length (recordAt 0 records k), lines-length records ks)
+
+-- ---- the report
+
+pub run-length : (c n k : ℕ) (t : Totals) (records : List ℕ) → c < 2 ^ 64 → n < 256 → k < 2 ^ 64 → TotalsFit t → validLength (length records) ≡ true → length (runText c n k t records) ≤ reportLength
+unfolding runText
+run-length c n k t records f g h fit valid =
+    let first = doneLine c n k in
+    let second = totalsLine t in
+    let third = linesUpTo records (recordCount records) in
+    omega (
+      arith,
+      length-append first (second ++ third),
+      length-append second third,
+      done-length c n k f g h,
+      totals-length t fit,
+      lines-length records (upTo (recordCount records)),
+      from-length 0 (recordCount records),
+      length-limits (length records) valid .count,
+    )

@@ -1,0 +1,54 @@
+-- The whole text that the program prints, for each outcome, and what the function that fills the buffer answers.
+-- Assumes nothing.
+use Prim.Native.Nat.{ℕ}
+use mathlib.Core.Bool.{not}
+use mathlib.Core.List.{List, map, _++_}
+use lib.Dec.{ltb}
+use lib.ListN.{length, drop}
+use Rattle.refusal.specs.Refused.{Answer, result, refused, refusedBy, refuseIf, number, place}
+use Rattle.arith.specs.Sums.{upTo}
+use Rattle.particle.specs.declared.Particle.{Particle}
+use Rattle.particle.specs.Record.{particleOf}
+use Rattle.particles.specs.declared.Totals.{Totals}
+use Rattle.particles.specs.Set.{recordAt, recordCount, validLength}
+use Rattle.report.specs.declared.Outcome.{Outcome}
+use Rattle.report.specs.declared.Outcome.the-variants.{Refused, Done, Stopped}
+use Rattle.report.specs.declared.Reported.{Reported}
+use Rattle.report.specs.declared.Reported.the-variants as reported
+use Rattle.report.specs.Lines.{refusedLine, doneLine, totalsLine, particleLines}
+
+-- the particles that records hold, one after the other
+abbrev pub particlesIn : List ℕ → List Particle
+particlesIn records = map (λ k. particleOf (recordAt 0 records k)) (upTo (recordCount records))
+
+-- completed steps, refusal and place; then the totals; then each record
+unfoldable pub runText : ℕ → ℕ → ℕ → Totals → List ℕ → List ℕ
+runText completed n k totals records = doneLine completed n k ++ (totalsLine totals ++ particleLines (particlesIn records))
+
+-- a refused file prints its refusal alone
+abbrev pub textOf : Outcome → List ℕ → List ℕ
+textOf (Refused e) records = refusedLine (number e) (place e)
+textOf (Done completed totals) records = runText completed 0 0 totals records
+textOf (Stopped completed e totals) records = runText completed (number e) (place e) totals records
+
+-- the length of a buffer that every text fits
+abbrev pub reportLength : ℕ
+reportLength = 217280
+
+-- 1 records that are not whole or too many, or a buffer that is too short; the result is the text's length
+unfoldable pub reportAnswer : Outcome → List ℕ → List ℕ → Answer ℕ
+reportAnswer outcome records out =
+    refuseIf (not (validLength (length records))) 1 0
+    (refuseIf (ltb (length out) reportLength) 1 0 (result (length (textOf outcome records))))
+
+-- the buffer afterwards: it begins with the text where the answer is a result, and else it is what it was
+abbrev pub filledUnless : Answer ℕ → List ℕ → List ℕ → List ℕ
+filledUnless (result n) text out = text ++ drop n out
+filledUnless (refused n k) text out = out
+
+unfoldable pub filled : Outcome → List ℕ → List ℕ → List ℕ
+filled outcome records out = filledUnless (reportAnswer outcome records out) (textOf outcome records) out
+
+abbrev pub toldReported : Reported → Answer ℕ
+toldReported (reported.Length n) = result n
+toldReported (reported.Refused e) = refusedBy e
