@@ -1,23 +1,12 @@
 /* Times scatter, update, gather, step and run on a bath file: processor time, median of 201 rounds.
    usage: time_operations FILE */
+#include "gondwize.h"
+
 #include <stdint.h>
 #include <stdio.h>
 #include <stdlib.h>
 #include <string.h>
 #include <time.h>
-
-uint64_t gondwize_read_file(const uint8_t *bytes, size_t length, int64_t *values, size_t count);
-uint64_t gondwize_scatter(size_t nx, size_t ny, const uint8_t *records, size_t length, uint64_t *mass, size_t masses,
-                          int64_t *px, size_t pxs, int64_t *py, size_t pys);
-uint64_t gondwize_update(size_t nx, size_t ny, int64_t gx, int64_t gy, const uint64_t *mass, size_t masses, int64_t *px,
-                         size_t pxs, int64_t *py, size_t pys);
-uint64_t gondwize_gather(size_t nx, size_t ny, uint8_t *records, size_t length, const int64_t *ux, size_t uxs,
-                         const int64_t *uy, size_t uys);
-uint64_t gondwize_step(size_t nx, size_t ny, int64_t gx, int64_t gy, uint8_t *records, size_t length, uint64_t *mass,
-                       size_t masses, int64_t *px, size_t pxs, int64_t *py, size_t pys);
-uint64_t gondwize_run(size_t nx, size_t ny, int64_t gx, int64_t gy, size_t steps, uint8_t *records, size_t length,
-                      uint64_t *mass, size_t masses, int64_t *px, size_t pxs, int64_t *py, size_t pys,
-                      uint64_t *completed, size_t counts);
 
 enum { ROUNDS = 201, STEPS = 40 };
 

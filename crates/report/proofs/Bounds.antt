@@ -17,7 +17,7 @@ use Rattle.particle.specs.Record.{particleOf}
 use Rattle.particle.proofs.Parts.{cut-below}
 use Rattle.particle.proofs.Signed.{decoded-mag}
 use Rattle.particles.specs.declared.Totals.{Totals}
-use Rattle.particles.specs.Set.{recordAt, recordCount, validLength}
+use Rattle.particles.specs.Set.{recordAt, recordCount, validLength, particlesIn}
 use Rattle.particles.proofs.Checks.{length-limits}
 use Rattle.report.specs.Decimal.{bytesOf, decimal, signed}
 use Rattle.report.specs.Lines.{line, refusedLine, doneLine, totalsLine, particleLine, particleLines}
@@ -144,7 +144,7 @@ lines-length records (k ∷ ks) =
 -- ---- the report
 
 pub run-length : (c n k : ℕ) (t : Totals) (records : List ℕ) → c < 2 ^ 64 → n < 256 → k < 2 ^ 64 → TotalsFit t → validLength (length records) ≡ true → length (runText c n k t records) ≤ reportLength
-unfolding runText
+unfolding runText particlesIn
 run-length c n k t records f g h fit valid =
     let first = doneLine c n k in
     let second = totalsLine t in

@@ -5,6 +5,7 @@ use Prim.Native.Nat.{ℕ}
 use lib.IntN.{pos, negℤ}
 use Rattle.refusal.specs.declared.Refusal.the-variants.{Mass}
 use Rattle.particle.specs.Record.{particleOf, recordOf}
+use Rattle.particles.specs.Set.{particlesIn}
 use Rattle.report.specs.declared.Outcome.the-variants.{Refused, Done}
 use Rattle.report.specs.Decimal.{bytesOf, digitsWithin, decimal, signed}
 use Rattle.report.specs.Lines.{refusedLine, doneLine, totalsLine, particleLine, particleLines}
@@ -16,7 +17,7 @@ unfolding recordOf
 records = recordOf (record { identifier = 7; mass = 2; x = 67; y = 62; vx = pos 3; vy = negℤ (pos 2); bxx = pos 0; bxy = pos 0; byx = pos 0; byy = pos 0 })
 
 printed : textOf (Done 1 (record { mass = 2; px = pos 6; py = negℤ (pos 4); spin = negℤ (pos 640); motion = pos 26 })) records ≡ bytesOf "done 1 refusal 0 at 0\nmass 2 px 6 py -4 spin -640 motion 26\n7 2 67 62 3 -2 0 0 0 0\n"
-unfolding records recordOf particleOf runText doneLine totalsLine particleLine particleLines decimal digitsWithin signed
+unfolding records recordOf particleOf runText particlesIn doneLine totalsLine particleLine particleLines decimal digitsWithin signed
 printed = refl
 
 refused : textOf (Refused (Mass 17)) records ≡ bytesOf "refused 4 at 17\n"

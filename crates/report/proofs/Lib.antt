@@ -5,5 +5,4 @@ pub mod Texts
 pub mod Lines
 pub mod Bounds
 pub mod Answers
-pub mod Sets
 pub mod Example

@@ -2,24 +2,17 @@
 -- Assumes nothing.
 use Prim.Native.Nat.{ℕ}
 use mathlib.Core.Bool.{not}
-use mathlib.Core.List.{List, map, _++_}
+use mathlib.Core.List.{List, _++_}
 use lib.Dec.{ltb}
 use lib.ListN.{length, drop}
 use Rattle.refusal.specs.Refused.{Answer, result, refused, refusedBy, refuseIf, number, place}
-use Rattle.arith.specs.Sums.{upTo}
-use Rattle.particle.specs.declared.Particle.{Particle}
-use Rattle.particle.specs.Record.{particleOf}
 use Rattle.particles.specs.declared.Totals.{Totals}
-use Rattle.particles.specs.Set.{recordAt, recordCount, validLength}
+use Rattle.particles.specs.Set.{particlesIn, validLength}
 use Rattle.report.specs.declared.Outcome.{Outcome}
 use Rattle.report.specs.declared.Outcome.the-variants.{Refused, Done, Stopped}
 use Rattle.report.specs.declared.Reported.{Reported}
 use Rattle.report.specs.declared.Reported.the-variants as reported
 use Rattle.report.specs.Lines.{refusedLine, doneLine, totalsLine, particleLines}
-
--- the particles that records hold, one after the other
-abbrev pub particlesIn : List ℕ → List Particle
-particlesIn records = map (λ k. particleOf (recordAt 0 records k)) (upTo (recordCount records))
 
 -- completed steps, refusal and place; then the totals; then each record
 unfoldable pub runText : ℕ → ℕ → ℕ → Totals → List ℕ → List ℕ

@@ -3,7 +3,7 @@ use borrow.Author.Needs.{needs}
 use native.Mathlib.Omega.{arith}
 use mathlib.Core.List.{_++_}
 use denote.Ref.{now}
-use Rattle.particles.specs.Set.{recordCount}
+use Rattle.particles.specs.Set.{recordCount, particlesIn}
 use Rattle.report.specs.Lines.{doneLine, totalsLine}
 use Rattle.report.specs.Internal.{Room, linesUpTo}
 use Rattle.report.specs.Report.{runText}
@@ -18,7 +18,7 @@ totals-fit c =
     record { mass = g .0 .1; px = g .1 .0 .1; py = g .1 .1 .0 .1; spin = g .1 .1 .1 .0 .1; motion = g .1 .1 .1 .1 .0 .1 }
 
 room : (c : tie.Start) → Room (now (c .args .out)) 0 (doneLine (c .args .completed) (c .args .refusal) (c .args .place) ++ (totalsLine (c .args .totals) ++ linesUpTo (now (c .args .records)) (recordCount (now (c .args .records)))))
-unfolding runText
+unfolding runText particlesIn
 room c =
     record {
       room =
@@ -51,7 +51,7 @@ same-length : tie.Need-same-length
 same-length c = search needs
 
 returns : tie.Need-returns
-unfolding runText
+unfolding runText particlesIn
 returns c = put-then (c .before .before .before .before .before .before .before .before .before .before .put-done .ensures) (put-then (c .before .before .before .before .before .before .put-totals .ensures) (c .before .before .put-records .ensures))
 
 pub put-run-spec : {M : Type 1} → statement M

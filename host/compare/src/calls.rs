@@ -1,0 +1,189 @@
+//! A call by the engine and by the reference.
+
+use engine::GridBuffers;
+use reference::simulation::{run_by, step_by};
+use reference::transfer::{gather_by, scatter_by};
+use reference::{Header, Particle, Refusal, RunAnswer, Settings, Size, Sums, Totals};
+use vectors::{Answer, Buffers, Operation};
+
+/// A refusal in the reference's type.
+fn refusal(refusal: engine::Refusal) -> Refusal {
+    Refusal::at(refusal.limit.number(), refusal.place)
+}
+
+/// A size in the engine's type, none where it has no such numbers.
+fn size(size: Size) -> Option<engine::Size> {
+    Some(engine::Size {
+        nx: size.nx.try_into().ok()?,
+        ny: size.ny.try_into().ok()?,
+    })
+}
+
+/// Settings in the engine's type.
+fn settings(settings: Settings) -> Option<engine::Settings> {
+    Some(engine::Settings {
+        size: size(settings.size)?,
+        gx: settings.gx.try_into().ok()?,
+        gy: settings.gy.try_into().ok()?,
+    })
+}
+
+/// A particle in the engine's type.
+fn to_engine(p: Particle) -> Option<engine::Particle> {
+    Some(engine::Particle {
+        identifier: p.identifier,
+        mass: p.mass.try_into().ok()?,
+        x: p.x.try_into().ok()?,
+        y: p.y.try_into().ok()?,
+        vx: p.vx.try_into().ok()?,
+        vy: p.vy.try_into().ok()?,
+        bxx: p.bxx.try_into().ok()?,
+        bxy: p.bxy.try_into().ok()?,
+        byx: p.byx.try_into().ok()?,
+        byy: p.byy.try_into().ok()?,
+    })
+}
+
+/// A particle in the reference's type.
+fn from_engine(p: engine::Particle) -> Particle {
+    Particle {
+        identifier: p.identifier,
+        mass: p.mass.into(),
+        x: p.x.into(),
+        y: p.y.into(),
+        vx: p.vx.into(),
+        vy: p.vy.into(),
+        bxx: p.bxx.into(),
+        bxy: p.bxy.into(),
+        byx: p.byx.into(),
+        byy: p.byy.into(),
+    }
+}
+
+/// Totals in the reference's type.
+fn from_totals(totals: engine::Totals) -> Totals {
+    Totals {
+        mass: totals.mass.into(),
+        px: totals.px.into(),
+        py: totals.py.into(),
+        angular_momentum: totals.angular_momentum.into(),
+        motion: totals.motion.into(),
+    }
+}
+
+/// A header in the engine's type.
+fn to_header(header: Header) -> Option<engine::Header> {
+    Some(engine::Header {
+        size: size(header.settings.size)?,
+        gx: header.settings.gx.try_into().ok()?,
+        gy: header.settings.gy.try_into().ok()?,
+        count: header.count.try_into().ok()?,
+        steps: header.steps.try_into().ok()?,
+    })
+}
+
+/// A header in the reference's type.
+fn from_header(header: engine::Header) -> Header {
+    let engine::Size { nx, ny } = header.size;
+    let size = Size::new(nx as i128, ny as i128);
+    Header {
+        settings: Settings::new(size, header.gx.into(), header.gy.into()),
+        count: header.count as i128,
+        steps: header.steps as i128,
+    }
+}
+
+/// A run's answer in the reference's type.
+fn from_run(answer: engine::RunAnswer) -> RunAnswer {
+    RunAnswer {
+        completed: answer.completed,
+        refusal: answer.refusal.map(refusal),
+    }
+}
+
+/// The answer of the engine; the buffers are left as the operation leaves them. None where the
+/// engine's types have no such numbers, and for the program.
+pub fn by_engine(operation: Operation, buffers: &mut Buffers) -> Option<Answer> {
+    let bytes = &mut buffers.bytes;
+    let mut grid = GridBuffers {
+        mass: &mut buffers.grid.mass,
+        x: &mut buffers.grid.x,
+        y: &mut buffers.grid.y,
+    };
+    let done = |()| Answer::Done;
+    let answer = match operation {
+        Operation::ReadRecord => {
+            engine::read_record(bytes).map(|p| Answer::Particle(from_engine(p)))
+        }
+        Operation::WriteRecord(p) => engine::write_record(&to_engine(p)?, bytes).map(done),
+        Operation::CheckSet(at) => engine::check_set(size(at)?, bytes).map(Answer::Count),
+        Operation::Totals(at) => {
+            engine::totals(size(at)?, bytes).map(|totals| Answer::Totals(from_totals(totals)))
+        }
+        Operation::Weights(q) => {
+            engine::weights(q.try_into().ok()?).map(|row| Answer::Weights(row.map(i128::from)))
+        }
+        Operation::Scatter(at) => engine::scatter(size(at)?, bytes, &mut grid).map(done),
+        Operation::Update(given) => engine::update(settings(given)?, &mut grid).map(done),
+        Operation::Gather(at) => engine::gather(size(at)?, bytes, grid.x, grid.y).map(done),
+        Operation::Step(given) => engine::step(settings(given)?, bytes, &mut grid).map(done),
+        Operation::Run(given, steps) => {
+            let steps = steps.try_into().ok()?;
+            let answer = engine::run(settings(given)?, steps, bytes, &mut grid);
+            Ok(Answer::Ran(from_run(answer)))
+        }
+        Operation::ReadFile => {
+            engine::read_file(bytes).map(|header| Answer::Header(from_header(header)))
+        }
+        Operation::WriteHeader(header) => {
+            engine::write_header(&to_header(header)?, bytes).map(done)
+        }
+        Operation::Program => return None,
+    };
+    Some(answer.unwrap_or_else(|refused| Answer::Refused(refusal(refused))))
+}
+
+/// Which sums the reference takes: all terms where they are few, and those near each particle else.
+fn sums(buffers: &Buffers) -> Sums {
+    let terms = buffers.bytes.len() / 14 * buffers.grid.x.len();
+    if terms <= 1_000 {
+        Sums::Literal
+    } else {
+        Sums::Nearby
+    }
+}
+
+/// The answer of the reference; the buffers are left as the operation leaves them.
+pub fn by_reference(operation: Operation, buffers: &mut Buffers) -> Answer {
+    let sums = sums(buffers);
+    let Buffers { bytes, grid } = buffers;
+    let answer = match operation {
+        Operation::Scatter(size) => scatter_by(sums, size, bytes, &mut grid.buffers()),
+        Operation::Gather(size) => gather_by(sums, size, bytes, &grid.x, &grid.y),
+        Operation::Step(settings) => step_by(sums, settings, bytes, &mut grid.buffers()),
+        Operation::Run(settings, steps) => {
+            let answer = run_by(sums, settings, steps, bytes, &mut grid.buffers());
+            return Answer::Ran(answer);
+        }
+        other => return vectors::perform(other, buffers),
+    };
+    answer.map_or_else(Answer::Refused, |()| Answer::Done)
+}
+
+/// Calls both; the answer and the buffers, if they agree. None where the engine has no such call.
+///
+/// # Panics
+///
+/// Where answers or buffers differ.
+pub fn agreed(name: &str, operation: Operation, before: &Buffers) -> Option<(Answer, Buffers)> {
+    let mut found = before.clone();
+    let answer = by_engine(operation, &mut found)?;
+    let mut expected = before.clone();
+    let expected_answer = by_reference(operation, &mut expected);
+    assert_eq!(answer, expected_answer, "{name}: {operation:?}");
+    assert!(
+        found == expected,
+        "{name}: buffers differ after {operation:?}\nbefore: {before:?}\nengine: {found:?}\nreference: {expected:?}"
+    );
+    Some((answer, found))
+}

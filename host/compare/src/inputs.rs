@@ -1,0 +1,457 @@
+//! Inputs of every operation: valid ones, every limit at its edge and one beyond, and damaged bytes.
+
+use reference::generator::Generator;
+use reference::particle_set::pack_records;
+use reference::{Grid, Header, Particle, Settings, Size};
+use vectors::{Buffers, Operation};
+
+/// A number at an end of its range, one beyond, inside, or anywhere in its type.
+fn near(numbers: &mut Generator, range: (i128, i128), kind: (i128, i128)) -> i128 {
+    let (low, high) = range;
+    let number = match numbers.between(0, 7) {
+        0 => low,
+        1 => low - 1,
+        2 => high,
+        3 => high + 1,
+        4 => numbers.between(kind.0, kind.1),
+        5 => numbers.one_of(&[0, kind.0, kind.1]),
+        _ => numbers.between(low, high),
+    };
+    number.clamp(kind.0, kind.1)
+}
+
+const USIZE: (i128, i128) = (0, usize::MAX as i128);
+const I64: (i128, i128) = (i64::MIN as i128, i64::MAX as i128);
+const U16: (i128, i128) = (0, u16::MAX as i128);
+const I16: (i128, i128) = (i16::MIN as i128, i16::MAX as i128);
+
+/// A size: mostly small and accepted.
+fn size(numbers: &mut Generator) -> Size {
+    match numbers.between(0, 39) {
+        0 => Size::new(near(numbers, (4, 48), USIZE), numbers.between(4, 48)),
+        1 => Size::new(numbers.between(4, 48), near(numbers, (4, 48), USIZE)),
+        2 => Size::new(numbers.one_of(&[4, 48]), numbers.one_of(&[4, 48])),
+        3..=9 => numbers.size(),
+        _ => Size::new(numbers.between(4, 9), numbers.between(4, 9)),
+    }
+}
+
+/// The nearest accepted size, for particles to stand on.
+fn ground(size: Size) -> Size {
+    Size::new(size.nx.clamp(4, 48), size.ny.clamp(4, 48))
+}
+
+/// Settings: mostly accepted gravity.
+fn settings(numbers: &mut Generator, size: Size) -> Settings {
+    let strongest = numbers.one_of(&[0, 10, 200, 4096]);
+    let mut gravity = || match numbers.between(0, 29) {
+        0 => near(numbers, (-4096, 4096), I64),
+        1 => numbers.one_of(&[-4096, 4096]),
+        _ => numbers.between(-strongest, strongest),
+    };
+    let (gx, gy) = (gravity(), gravity());
+    Settings::new(size, gx, gy)
+}
+
+/// A particle on the grid with every number in its range, ends included.
+fn particle(numbers: &mut Generator, size: Size) -> Particle {
+    let mut number = |low, high| match numbers.between(0, 5) {
+        0 => low,
+        1 => high,
+        _ => numbers.between(low, high),
+    };
+    let x = number(32, 64 * (size.nx - 1) - 33);
+    let y = number(32, 64 * (size.ny - 1) - 33);
+    Particle::at_rest(number(0, 65_535) as u16, number(1, 1023), x, y)
+        .moving(number(-63, 63), number(-63, 63))
+        .with_b(std::array::from_fn(|_| number(-2047, 2047)))
+}
+
+/// One number of a particle at a limit or beyond, as far as the type of its field holds it.
+fn strain(numbers: &mut Generator, p: &mut Particle, u: (i128, i128), i: (i128, i128)) {
+    match numbers.between(0, 8) {
+        0 => p.mass = near(numbers, (1, 1023), u),
+        1 => p.x = near(numbers, (0, 4095), u),
+        2 => p.y = near(numbers, (0, 4095), u),
+        3 => p.vx = near(numbers, (-63, 63), i),
+        4 => p.vy = near(numbers, (-63, 63), i),
+        5 => p.bxx = near(numbers, (-2047, 2047), i),
+        6 => p.bxy = near(numbers, (-2047, 2047), i),
+        7 => p.byx = near(numbers, (-2047, 2047), i),
+        _ => p.byy = near(numbers, (-2047, 2047), i),
+    }
+}
+
+/// Any bytes.
+fn any_bytes(numbers: &mut Generator, length: usize) -> Vec<u8> {
+    (0..length).map(|_| numbers.bits() as u8).collect()
+}
+
+/// A place in a slice that is not empty.
+fn place(numbers: &mut Generator, length: usize) -> usize {
+    numbers.between(0, length as i128 - 1) as usize
+}
+
+/// Flips bits, cuts, lengthens, or replaces the bytes.
+fn damage(numbers: &mut Generator, bytes: &mut Vec<u8>) {
+    match numbers.between(0, 4) {
+        0 | 1 if !bytes.is_empty() => {
+            for _ in 0..numbers.between(1, 3) {
+                let at = place(numbers, bytes.len());
+                bytes[at] ^= 1 << numbers.between(0, 7);
+            }
+        }
+        2 => {
+            let cut = numbers.one_of(&[1, 2, 13, 14, 15]) as usize;
+            bytes.truncate(bytes.len().saturating_sub(cut));
+        }
+        3 => {
+            let more = numbers.one_of(&[1, 2, 13, 14, 15]) as usize;
+            bytes.extend(any_bytes(numbers, more));
+        }
+        _ => *bytes = any_bytes(numbers, bytes.len()),
+    }
+}
+
+/// The particles of a set, mostly accepted on the grid.
+fn particles(numbers: &mut Generator, size: Size) -> Vec<Particle> {
+    if numbers.once_in(60) {
+        return heavy(numbers, size);
+    }
+    let count = numbers.one_of(&[0, 1, 1, 2, 2, 3, 5, 8, 13, 40]) as usize;
+    let v = numbers.one_of(&[0, 2, 20, 63]);
+    let b = numbers.one_of(&[0, 100, 2047]);
+    let mut set = numbers.particles(size, count, v, b);
+    if !set.is_empty() && numbers.once_in(4) {
+        let at = place(numbers, set.len());
+        let identifier = set[at].identifier;
+        set[at] = particle(numbers, size);
+        set[at].identifier = identifier;
+    }
+    set
+}
+
+/// A set at the limit of mass, or one or more beyond.
+fn heavy(numbers: &mut Generator, size: Size) -> Vec<Particle> {
+    let mut set = numbers.particles(size, 129, 10, 10);
+    for p in &mut set {
+        p.mass = 1023;
+    }
+    set[128].mass = numbers.one_of(&[1, 127, 128, 129, 1023]);
+    set
+}
+
+/// Breaks one thing that a set keeps.
+fn break_set(numbers: &mut Generator, size: Size, set: &mut [Particle]) {
+    if set.is_empty() {
+        return;
+    }
+    let at = place(numbers, set.len());
+    let (right, top) = (64 * (size.nx - 1) - 33, 64 * (size.ny - 1) - 33);
+    match numbers.between(0, 9) {
+        0 => set[at].mass = 0,
+        1 => set[at].vx = -64,
+        2 => set[at].vy = -64,
+        3 => set[at].byx = -2048,
+        4 => set[at].bxx = -2048,
+        5 => set[at].x = numbers.one_of(&[0, 31, right + 1, 4095]),
+        6 => set[at].y = numbers.one_of(&[0, 31, top + 1, 4095]),
+        7 => set[at].identifier = set[at / 2].identifier,
+        8 => set.swap(at, 0),
+        _ => strain(numbers, &mut set[at], (0, 1023), (-64, 63)),
+    }
+}
+
+/// The records of a set, one in four broken and one in eight damaged.
+fn records(numbers: &mut Generator, size: Size) -> Vec<u8> {
+    let ground = ground(size);
+    let mut set = particles(numbers, ground);
+    if numbers.once_in(4) {
+        break_set(numbers, ground, &mut set);
+    }
+    let mut bytes = pack_records(&set);
+    if numbers.once_in(8) {
+        damage(numbers, &mut bytes);
+    }
+    bytes
+}
+
+/// The length of a grid buffer, mostly as many as nodes.
+fn nodes(numbers: &mut Generator, size: Size) -> usize {
+    let count = ground(size).nodes();
+    match numbers.between(0, 59) {
+        0 => count - 1,
+        1 => count + 1,
+        2 => numbers.between(0, 2_400) as usize,
+        _ => count,
+    }
+}
+
+/// A grid of any numbers.
+fn any_grid(numbers: &mut Generator, size: Size) -> Grid {
+    let mass = nodes(numbers, size);
+    let (x, y) = (nodes(numbers, size), nodes(numbers, size));
+    Grid {
+        mass: (0..mass).map(|_| numbers.bits()).collect(),
+        x: (0..x).map(|_| numbers.bits() as i64).collect(),
+        y: (0..y).map(|_| numbers.bits() as i64).collect(),
+    }
+}
+
+/// Buffers without a grid.
+fn only(bytes: Vec<u8>) -> Buffers {
+    Buffers {
+        bytes,
+        grid: Grid::zero(0),
+    }
+}
+
+/// A call: an operation with its buffers.
+pub type Call = (Operation, Buffers);
+
+/// Read a record.
+pub fn read_record(numbers: &mut Generator) -> Call {
+    let mut held = particle(numbers, Size::new(48, 48));
+    if numbers.once_in(2) {
+        strain(numbers, &mut held, (0, 1023), (-2048, 2047));
+    }
+    let mut bytes = held.pack().to_vec();
+    if numbers.once_in(3) {
+        damage(numbers, &mut bytes);
+    }
+    (Operation::ReadRecord, only(bytes))
+}
+
+/// Write a record.
+pub fn write_record(numbers: &mut Generator) -> Call {
+    let mut given = particle(numbers, Size::new(48, 48));
+    if numbers.once_in(2) {
+        strain(numbers, &mut given, U16, I16);
+    }
+    let length = match numbers.between(0, 9) {
+        0 => numbers.between(0, 40),
+        1 => numbers.one_of(&[0, 13, 15]),
+        _ => 14,
+    };
+    let buffer = any_bytes(numbers, length as usize);
+    (Operation::WriteRecord(given), only(buffer))
+}
+
+/// Check a set.
+pub fn check_set(numbers: &mut Generator) -> Call {
+    let size = size(numbers);
+    (Operation::CheckSet(size), only(records(numbers, size)))
+}
+
+/// Totals.
+pub fn totals(numbers: &mut Generator) -> Call {
+    let size = size(numbers);
+    (Operation::Totals(size), only(records(numbers, size)))
+}
+
+/// Weights.
+pub fn weights(numbers: &mut Generator) -> Call {
+    let q = near(numbers, (-32, 31), I64);
+    (Operation::Weights(q), only(Vec::new()))
+}
+
+/// Scatter.
+pub fn scatter(numbers: &mut Generator) -> Call {
+    let size = size(numbers);
+    let bytes = records(numbers, size);
+    let grid = any_grid(numbers, size);
+    (Operation::Scatter(size), Buffers { bytes, grid })
+}
+
+/// Mass and momentum of a node, mostly within the limits, with a velocity about an end of its range.
+fn node(numbers: &mut Generator, settings: Settings) -> (u64, i64, i64) {
+    let most = 1 << 43;
+    let mass = match numbers.between(0, 9) {
+        0 => 0,
+        1 => numbers.one_of(&[1, most - 1, most]),
+        2 => numbers.between(1, 9),
+        _ => numbers.between(1, most),
+    };
+    let mut momentum = |gravity: i128| {
+        let end = numbers.one_of(&[-1, 1]) * 131_072 - gravity.clamp(-4096, 4096);
+        let momentum = match numbers.between(0, 9) {
+            0 => 4 * mass * end + numbers.between(-2, 2) * mass,
+            1 => 4 * mass * end + numbers.one_of(&[-1, 1]) * (2 * mass - 1),
+            _ => 4 * mass * numbers.between(-100_000, 100_000) + numbers.between(-1, 1) * mass,
+        };
+        momentum.clamp(I64.0, I64.1) as i64
+    };
+    let (x, y) = (momentum(settings.gx), momentum(settings.gy));
+    (mass as u64, x, y)
+}
+
+/// Update.
+pub fn update(numbers: &mut Generator) -> Call {
+    let size = size(numbers);
+    let settings = settings(numbers, size);
+    let mut grid = any_grid(numbers, size);
+    if !numbers.once_in(10) {
+        let count = grid.mass.len().min(grid.x.len()).min(grid.y.len());
+        for k in 0..count {
+            (grid.mass[k], grid.x[k], grid.y[k]) = node(numbers, settings);
+        }
+        if count > 0 && numbers.once_in(5) {
+            let k = place(numbers, count);
+            grid.mass[k] = numbers.one_of(&[0, (1 << 43) + 1, u64::MAX.into()]) as u64;
+            grid.x[k] = numbers.one_of(&[0, 1, I64.0, I64.1]) as i64;
+        }
+    }
+    let buffers = Buffers {
+        bytes: Vec::new(),
+        grid,
+    };
+    (Operation::Update(settings), buffers)
+}
+
+/// Node velocities up to some size, and one in eight times a node at a limit or beyond.
+fn velocities(numbers: &mut Generator, count: usize) -> Vec<i64> {
+    let fastest = numbers.one_of(&[0, 300, 2_000, 16_128, 16_500, 131_072]);
+    let mut list: Vec<i64> = (0..count)
+        .map(|_| numbers.between(-fastest, fastest) as i64)
+        .collect();
+    if count > 0 && numbers.once_in(8) {
+        let k = place(numbers, count);
+        list[k] = near(numbers, (-131_072, 131_072), I64) as i64;
+    }
+    list
+}
+
+/// Gather.
+pub fn gather(numbers: &mut Generator) -> Call {
+    let size = size(numbers);
+    let bytes = records(numbers, size);
+    let (x, y) = (nodes(numbers, size), nodes(numbers, size));
+    let grid = Grid {
+        mass: Vec::new(),
+        x: velocities(numbers, x),
+        y: velocities(numbers, y),
+    };
+    (Operation::Gather(size), Buffers { bytes, grid })
+}
+
+/// Step.
+pub fn step(numbers: &mut Generator) -> Call {
+    let size = size(numbers);
+    let settings = settings(numbers, size);
+    let bytes = records(numbers, size);
+    let grid = any_grid(numbers, size);
+    (Operation::Step(settings), Buffers { bytes, grid })
+}
+
+/// The number of steps of a run: mostly few.
+fn steps(numbers: &mut Generator) -> i128 {
+    match numbers.between(0, 79) {
+        0 => near(numbers, (9_999, 10_000), USIZE),
+        1 => numbers.between(100, 400),
+        2..=9 => 0,
+        _ => numbers.between(1, 9),
+    }
+}
+
+/// Run.
+pub fn run(numbers: &mut Generator) -> Call {
+    let (Operation::Step(settings), buffers) = step(numbers) else {
+        unreachable!("a step");
+    };
+    (Operation::Run(settings, steps(numbers)), buffers)
+}
+
+/// A header, its numbers within what `kinds` says of gravity, and of the others.
+fn header(numbers: &mut Generator, size: Size, count: usize, kinds: [(i128, i128); 4]) -> Header {
+    let [side, gravity, counts, steps] = kinds;
+    let mut header = Header {
+        settings: Settings::new(
+            size,
+            numbers.between(-4096, 4096),
+            numbers.between(-4096, 4096),
+        ),
+        count: count as i128,
+        steps: numbers.one_of(&[0, 1, 10_000, 77]),
+    };
+    match numbers.between(0, 11) {
+        0 => header.settings.gx = near(numbers, (-4096, 4096), gravity),
+        1 => header.settings.gy = near(numbers, (-4096, 4096), gravity),
+        2 => header.count = near(numbers, (0, 4096), counts),
+        3 => header.steps = near(numbers, (0, 10_000), steps),
+        4 => header.settings.size.nx = near(numbers, (4, 48), side),
+        5 => header.settings.size.ny = near(numbers, (4, 48), side),
+        _ => {}
+    }
+    header
+}
+
+/// Read a file.
+pub fn read_file(numbers: &mut Generator) -> Call {
+    let size = numbers.size();
+    let set = records(numbers, size);
+    let count = set.len() / 14;
+    let kinds = [(0, 63), (-8192, 8191), (0, 8191), (0, 16_383)];
+    let spare = if numbers.once_in(12) {
+        numbers.between(1, 31)
+    } else {
+        0
+    };
+    let mut file = header(numbers, size, count, kinds).pack(spare).to_vec();
+    file.extend(set);
+    match numbers.between(0, 19) {
+        0 => file.truncate(place(numbers, file.len())),
+        1 | 2 => damage(numbers, &mut file),
+        3 => file.truncate(numbers.between(0, 10) as usize),
+        _ => {}
+    }
+    (Operation::ReadFile, only(file))
+}
+
+/// Write a header.
+pub fn write_header(numbers: &mut Generator) -> Call {
+    let size = size(numbers);
+    let count = numbers.between(0, 4096) as usize;
+    let header = header(numbers, size, count, [USIZE, I16, USIZE, USIZE]);
+    let length = numbers.one_of(&[9, 9, 9, 9, 9, 9, 9, 0, 8, 10, 14]);
+    let buffer = any_bytes(numbers, length as usize);
+    (Operation::WriteHeader(header), only(buffer))
+}
+
+/// An accepted set as its records, for lists of calls.
+pub fn accepted(numbers: &mut Generator) -> (Size, Vec<u8>) {
+    let size = Size::new(numbers.between(4, 12), numbers.between(4, 12));
+    let count = numbers.between(0, 12) as usize;
+    let v = numbers.one_of(&[0, 2, 8, 30]);
+    let b = numbers.one_of(&[0, 30, 600]);
+    (size, pack_records(&numbers.particles(size, count, v, b)))
+}
+
+/// A step or run on some records: mostly on this size, with grids that hold anything.
+pub fn list_call(numbers: &mut Generator, size: Size, records: &[u8]) -> Call {
+    let given = if numbers.once_in(8) {
+        self::size(numbers)
+    } else {
+        size
+    };
+    let settings = settings(numbers, given);
+    let operation = if numbers.once_in(2) {
+        Operation::Step(settings)
+    } else {
+        Operation::Run(settings, steps(numbers))
+    };
+    let bytes = records.to_vec();
+    let grid = any_grid(numbers, given);
+    (operation, Buffers { bytes, grid })
+}
+
+/// A set of as many records as wanted on the largest grid, the total mass at its limit.
+pub fn full_set(numbers: &mut Generator, count: usize) -> (Size, Vec<u8>) {
+    let size = Size::new(48, 48);
+    let mut set: Vec<Particle> = (0..count).map(|_| particle(numbers, size)).collect();
+    for (k, p) in set.iter_mut().enumerate() {
+        p.identifier = (k * 15) as u16;
+        p.mass = 32;
+        (p.vx, p.vy) = (p.vx / 8, p.vy / 8);
+    }
+    (size, pack_records(&set))
+}

@@ -1,0 +1,469 @@
+//! Two-dimensional APIC (affine particle-in-cell) with the quadratic B-spline in whole numbers: the
+//! proved engine, called through its static library.
+//!
+//! A particle set is a slice of records, 14 bytes each. An operation takes any numbers and any
+//! slices, of any length. It does all that it promises or says which [`Limit`] is broken and where,
+//! and then has changed nothing, unless its own text says otherwise.
+//!
+//! ```
+//! use engine::{run, write_record, GridBuffers, Particle, Settings, Size};
+//!
+//! let particle = Particle { identifier: 7, mass: 2, x: 64, y: 64, vx: 3, vy: -2, ..Particle::default() };
+//! let mut records = [0; engine::RECORD_LENGTH];
+//! write_record(&particle, &mut records)?;
+//!
+//! let settings = Settings { size: Size { nx: 4, ny: 4 }, gx: 0, gy: 0 };
+//! let (mut mass, mut x, mut y) = ([0; 16], [0; 16], [0; 16]);
+//! let mut grid = GridBuffers { mass: &mut mass, x: &mut x, y: &mut y };
+//! let answer = run(settings, 1, &mut records, &mut grid);
+//! assert_eq!((answer.completed, answer.refusal), (1, None));
+//! assert_eq!(engine::read_record(&records)?.x, 67);
+//! # Ok::<(), engine::Refusal>(())
+//! ```
+//!
+//! | operation | function |
+//! | --- | --- |
+//! | read, write a record | [`read_record`], [`write_record`] |
+//! | check a set, its totals | [`check_set`], [`totals`] |
+//! | weights of one axis | [`weights`] |
+//! | particle-to-grid transfer, node update, grid-to-particle transfer | [`scatter`], [`update`], [`gather`] |
+//! | step, run | [`step`], [`run`] |
+//! | read a file, write its header | [`read_file`], [`write_header`] |
+//!
+//! A call needs up to 700 kB of stack.
+
+#![warn(missing_docs)]
+
+pub mod ffi;
+mod refusal;
+
+pub use refusal::{Limit, Refusal};
+
+/// Length of a particle record in bytes.
+pub const RECORD_LENGTH: usize = 14;
+
+/// Length of a bath file's header in bytes.
+pub const HEADER_LENGTH: usize = 9;
+
+/// One particle. Every number can be written down; the operations refuse those out of range.
+#[derive(Clone, Copy, Debug, Default, PartialEq, Eq, Hash)]
+pub struct Particle {
+    /// Identifier.
+    pub identifier: u16,
+    /// Mass, 1 to 1023.
+    pub mass: u16,
+    /// Place on the x axis, nodes 64 apart; at most 4095 in a record.
+    pub x: u16,
+    /// Place on the y axis.
+    pub y: u16,
+    /// Velocity on the x axis, −63 to 63.
+    pub vx: i16,
+    /// Velocity on the y axis.
+    pub vy: i16,
+    /// Affine state B, velocity axis x, offset axis x; each entry −2047 to 2047.
+    pub bxx: i16,
+    /// B, velocity axis x, offset axis y.
+    pub bxy: i16,
+    /// B, velocity axis y, offset axis x.
+    pub byx: i16,
+    /// B, velocity axis y, offset axis y.
+    pub byy: i16,
+}
+
+/// Number of nodes along each axis, 4 to 48.
+#[derive(Clone, Copy, Debug, PartialEq, Eq, Hash)]
+pub struct Size {
+    /// Nodes along the x axis.
+    pub nx: usize,
+    /// Nodes along the y axis.
+    pub ny: usize,
+}
+
+/// The grid's size, and gravity in 256ths of a velocity unit per step, −4096 to 4096.
+#[derive(Clone, Copy, Debug, PartialEq, Eq, Hash)]
+pub struct Settings {
+    /// Nodes along each axis.
+    pub size: Size,
+    /// Gravity on the x axis.
+    pub gx: i64,
+    /// Gravity on the y axis.
+    pub gy: i64,
+}
+
+/// The caller's grid buffers, Nx·Ny long each. Node (i, j) has index j·Nx + i.
+#[derive(Debug, PartialEq, Eq)]
+pub struct GridBuffers<'a> {
+    /// Mass of each node.
+    pub mass: &'a mut [u64],
+    /// Momentum of each node on the x axis after a scatter; velocity in 256ths after an update.
+    pub x: &'a mut [i64],
+    /// The same on the y axis.
+    pub y: &'a mut [i64],
+}
+
+/// The sums over a particle set.
+#[derive(Clone, Copy, Debug, PartialEq, Eq, Hash)]
+pub struct Totals {
+    /// Sum of m.
+    pub mass: u64,
+    /// Sum of m·vx.
+    pub px: i64,
+    /// Sum of m·vy.
+    pub py: i64,
+    /// Angular momentum about node (0, 0), affine part included: sum of m·(x·vy − y·vx + Byx − Bxy).
+    pub angular_momentum: i64,
+    /// Sum of m·(vx² + vy²).
+    pub motion: i64,
+}
+
+/// The values of a bath file's header.
+#[derive(Clone, Copy, Debug, PartialEq, Eq, Hash)]
+pub struct Header {
+    /// Nodes along each axis.
+    pub size: Size,
+    /// Gravity on the x axis.
+    pub gx: i16,
+    /// Gravity on the y axis.
+    pub gy: i16,
+    /// Number of records, at most 4096.
+    pub count: usize,
+    /// Number of steps wanted, at most 10,000.
+    pub steps: usize,
+}
+
+impl Header {
+    /// The settings of a run of this file.
+    pub fn settings(&self) -> Settings {
+        Settings {
+            size: self.size,
+            gx: self.gx.into(),
+            gy: self.gy.into(),
+        }
+    }
+}
+
+/// The answer of a run.
+#[derive(Clone, Copy, Debug, PartialEq, Eq, Hash)]
+pub struct RunAnswer {
+    /// Number of completed steps.
+    pub completed: usize,
+    /// What stopped the run, at entry or at the next step.
+    pub refusal: Option<Refusal>,
+}
+
+/// A value of a result in its field's type, which the engine's contracts keep it within.
+fn field<T: TryFrom<i64>>(value: i64) -> T {
+    T::try_from(value).ok().expect("a value within its field")
+}
+
+/// Reads a record.
+///
+/// # Errors
+///
+/// 1 length not 14; 4 mass zero; 5 a velocity of −64; 6 a B entry of −2048.
+pub fn read_record(bytes: &[u8]) -> Result<Particle, Refusal> {
+    let mut values = [0; 10];
+    // SAFETY: both slices are valid and apart.
+    let code = unsafe {
+        ffi::gondwize_read_record(
+            bytes.as_ptr(),
+            bytes.len(),
+            values.as_mut_ptr(),
+            values.len(),
+        )
+    };
+    Refusal::check(code)?;
+    let [identifier, mass, x, y, vx, vy, bxx, bxy, byx, byy] = values;
+    Ok(Particle {
+        identifier: field(identifier),
+        mass: field(mass),
+        x: field(x),
+        y: field(y),
+        vx: field(vx),
+        vy: field(vy),
+        bxx: field(bxx),
+        bxy: field(bxy),
+        byx: field(byx),
+        byy: field(byy),
+    })
+}
+
+/// Writes a record into the buffer.
+///
+/// # Errors
+///
+/// 1 length not 14; 4 mass not 1 to 1023; 5 a velocity out of range; 6 a B entry out of range; 7 x or
+/// y above 4095.
+pub fn write_record(particle: &Particle, bytes: &mut [u8]) -> Result<(), Refusal> {
+    let p = particle;
+    // SAFETY: the slice is valid.
+    Refusal::check(unsafe {
+        ffi::gondwize_write_record(
+            p.identifier,
+            p.mass,
+            p.x,
+            p.y,
+            p.vx,
+            p.vy,
+            p.bxx,
+            p.bxy,
+            p.byx,
+            p.byy,
+            bytes.as_mut_ptr(),
+            bytes.len(),
+        )
+    })
+}
+
+/// Checks a set: the number of its records.
+///
+/// # Errors
+///
+/// 2; 1 length not a multiple of 14 or above 57,344; then for each record 4, 5, 6, 7 off the grid, 8,
+/// 9.
+pub fn check_set(size: Size, records: &[u8]) -> Result<usize, Refusal> {
+    let mut count = [0];
+    // SAFETY: both slices are valid and apart.
+    let code = unsafe {
+        ffi::gondwize_check_set(
+            size.nx,
+            size.ny,
+            records.as_ptr(),
+            records.len(),
+            count.as_mut_ptr(),
+            count.len(),
+        )
+    };
+    Refusal::check(code)?;
+    Ok(count[0] as usize)
+}
+
+/// Totals of a set.
+///
+/// # Errors
+///
+/// As [`check_set`].
+pub fn totals(size: Size, records: &[u8]) -> Result<Totals, Refusal> {
+    let mut values = [0; 5];
+    // SAFETY: both slices are valid and apart.
+    let code = unsafe {
+        ffi::gondwize_totals(
+            size.nx,
+            size.ny,
+            records.as_ptr(),
+            records.len(),
+            values.as_mut_ptr(),
+            values.len(),
+        )
+    };
+    Refusal::check(code)?;
+    let [mass, px, py, angular_momentum, motion] = values;
+    Ok(Totals {
+        mass: field(mass),
+        px,
+        py,
+        angular_momentum,
+        motion,
+    })
+}
+
+/// The weights of the lower, the nearest and the upper node of one axis for a particle at offset q
+/// from its nearest node. They total 8192.
+///
+/// # Errors
+///
+/// 7 offset outside −32 to 31.
+pub fn weights(q: i64) -> Result<[u16; 3], Refusal> {
+    let mut values = [0; 3];
+    // SAFETY: the slice is valid.
+    Refusal::check(unsafe { ffi::gondwize_weights(q, values.as_mut_ptr(), values.len()) })?;
+    Ok(values.map(field))
+}
+
+/// Particle-to-grid transfer: the grid then holds node masses and momenta of the set, whatever it
+/// held.
+///
+/// # Errors
+///
+/// 2; 1, also where a grid buffer is not Nx·Ny long; then the set.
+pub fn scatter(size: Size, records: &[u8], grid: &mut GridBuffers) -> Result<(), Refusal> {
+    // SAFETY: all slices are valid and apart.
+    Refusal::check(unsafe {
+        ffi::gondwize_scatter(
+            size.nx,
+            size.ny,
+            records.as_ptr(),
+            records.len(),
+            grid.mass.as_mut_ptr(),
+            grid.mass.len(),
+            grid.x.as_mut_ptr(),
+            grid.x.len(),
+            grid.y.as_mut_ptr(),
+            grid.y.len(),
+        )
+    })
+}
+
+/// Node update: velocities in 256ths, gravity included, take the place of momenta; masses stay.
+///
+/// # Errors
+///
+/// 2; 1 for the grid buffers; 10; then for each node 11, 12.
+pub fn update(settings: Settings, grid: &mut GridBuffers) -> Result<(), Refusal> {
+    let Settings { size, gx, gy } = settings;
+    // SAFETY: all slices are valid and apart.
+    Refusal::check(unsafe {
+        ffi::gondwize_update(
+            size.nx,
+            size.ny,
+            gx,
+            gy,
+            grid.mass.as_ptr(),
+            grid.mass.len(),
+            grid.x.as_mut_ptr(),
+            grid.x.len(),
+            grid.y.as_mut_ptr(),
+            grid.y.len(),
+        )
+    })
+}
+
+/// Grid-to-particle transfer from node velocities: the records then hold the moved particles.
+///
+/// # Errors
+///
+/// 2; 1, also for the velocity buffers; the set; 12 for each node; then for each record 13, 14, 15.
+/// No record moves if any is refused.
+pub fn gather(size: Size, records: &mut [u8], x: &[i64], y: &[i64]) -> Result<(), Refusal> {
+    // SAFETY: all slices are valid, and the records are apart from the others.
+    Refusal::check(unsafe {
+        ffi::gondwize_gather(
+            size.nx,
+            size.ny,
+            records.as_mut_ptr(),
+            records.len(),
+            x.as_ptr(),
+            x.len(),
+            y.as_ptr(),
+            y.len(),
+        )
+    })
+}
+
+/// One step: scatter, update, gather.
+///
+/// # Errors
+///
+/// 2; 1, also for the grid buffers; 10; the set. Then for each record 13, 14, 15: the records are as
+/// they were, and the grid holds masses and updated velocities.
+pub fn step(settings: Settings, records: &mut [u8], grid: &mut GridBuffers) -> Result<(), Refusal> {
+    let Settings { size, gx, gy } = settings;
+    // SAFETY: all slices are valid and apart.
+    Refusal::check(unsafe {
+        ffi::gondwize_step(
+            size.nx,
+            size.ny,
+            gx,
+            gy,
+            records.as_mut_ptr(),
+            records.len(),
+            grid.mass.as_mut_ptr(),
+            grid.mass.len(),
+            grid.x.as_mut_ptr(),
+            grid.x.len(),
+            grid.y.as_mut_ptr(),
+            grid.y.len(),
+        )
+    })
+}
+
+/// The step repeated, as often as wanted or until one is refused.
+///
+/// The refusal is one of 2; 1, also for the grid buffers; 10; 17; the set, and nothing has changed; or
+/// 13, 14, 15 of the step that stopped the run. Then the records are those of the last completed
+/// step, and the grid holds masses and updated velocities of the last step tried. A run of 0 steps
+/// touches nothing.
+pub fn run(
+    settings: Settings,
+    steps: usize,
+    records: &mut [u8],
+    grid: &mut GridBuffers,
+) -> RunAnswer {
+    let Settings { size, gx, gy } = settings;
+    let mut completed = [0];
+    // SAFETY: all slices are valid and apart.
+    let code = unsafe {
+        ffi::gondwize_run(
+            size.nx,
+            size.ny,
+            gx,
+            gy,
+            steps,
+            records.as_mut_ptr(),
+            records.len(),
+            grid.mass.as_mut_ptr(),
+            grid.mass.len(),
+            grid.x.as_mut_ptr(),
+            grid.x.len(),
+            grid.y.as_mut_ptr(),
+            grid.y.len(),
+            completed.as_mut_ptr(),
+            completed.len(),
+        )
+    };
+    RunAnswer {
+        completed: completed[0] as usize,
+        refusal: Refusal::from_code(code),
+    }
+}
+
+/// Reads a bath file: the header's values. The records lie from byte 9 on.
+///
+/// # Errors
+///
+/// 1 shorter than 9; 2; 10; 3; 17; 16; 1 length not 9 + 14·count; then the set.
+pub fn read_file(bytes: &[u8]) -> Result<Header, Refusal> {
+    let mut values = [0; 6];
+    // SAFETY: both slices are valid and apart.
+    let code = unsafe {
+        ffi::gondwize_read_file(
+            bytes.as_ptr(),
+            bytes.len(),
+            values.as_mut_ptr(),
+            values.len(),
+        )
+    };
+    Refusal::check(code)?;
+    let [nx, ny, gx, gy, count, steps] = values;
+    Ok(Header {
+        size: Size {
+            nx: field(nx),
+            ny: field(ny),
+        },
+        gx: field(gx),
+        gy: field(gy),
+        count: field(count),
+        steps: field(steps),
+    })
+}
+
+/// Writes a bath file's header into the buffer, spare bits zero.
+///
+/// # Errors
+///
+/// 1 length not 9; 2; 10; 3; 17.
+pub fn write_header(header: &Header, bytes: &mut [u8]) -> Result<(), Refusal> {
+    // SAFETY: the slice is valid.
+    Refusal::check(unsafe {
+        ffi::gondwize_write_header(
+            header.size.nx,
+            header.size.ny,
+            header.gx,
+            header.gy,
+            header.count,
+            header.steps,
+            bytes.as_mut_ptr(),
+            bytes.len(),
+        )
+    })
+}
