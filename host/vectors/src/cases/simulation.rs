@@ -15,7 +15,7 @@ pub fn cases() -> Vec<Case> {
         step_cases(),
         entry_refusals("run", run),
         run_refusals(),
-        run_cases(),
+        examples(),
         drifting_list(),
         spreading_list(),
     ]
@@ -202,7 +202,7 @@ fn near_each_other() -> [Particle; 3] {
     ]
 }
 
-fn run_cases() -> Vec<Case> {
+fn examples() -> Vec<Case> {
     let run = |name: &str, settings: Settings, steps: i128, particles: &[Particle], stated| {
         let buffers = with_grid(pack_records(particles), settings.size);
         let operation = Operation::Run(settings, steps);

@@ -58,6 +58,25 @@ fn rising() {
     calls::running(calls::gravity(0, 0), 3, &mut set);
 }
 
+// Two particles of masses m and n at (64, 64) with vx of the first v and of the second w.
+fn together(m: u16, v: i16, n: u16, w: i16) {
+    let mut set = [0u8; 28];
+    calls::put(&mut set, 0, calls::particle_of(1, m, 64, 64, v, 0));
+    calls::put(&mut set, 1, calls::particle_of(2, n, 64, 64, w, 0));
+    calls::stepping(calls::gravity(0, 0), &mut set);
+}
+
+// Document 01's examples of a step: a lone particle under gravity, one with Bxx, and two in one place.
+fn document() {
+    alone(calls::particle_of(1, 1, 64, 64, 0, 0), 127, 1);
+    alone(calls::particle_of(1, 1, 64, 64, 0, 0), 128, 1);
+    alone(calls::particle_of(1, 1, 64, 64, 0, 0), -128, 1);
+    let p = calls::particle_of(1, 1, 64, 64, 0, 0);
+    alone(calls::with_b(p, 1024, 0, 0, 0), 0, 1);
+    together(1, 1, 1, -1);
+    together(1, 1, 2, 0);
+}
+
 // Calls on one set: 4 by 4 nodes refuse it with 7 once 5 by 4 nodes have let it go on.
 fn mixed() {
     let mut set = pair();
@@ -80,6 +99,7 @@ fn long() {
 }
 
 pub fn cases() {
+    document();
     first_steps();
     empty();
     drifting();

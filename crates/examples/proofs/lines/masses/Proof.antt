@@ -1,27 +1,27 @@
--- `lines::bytes` ends. The measure is what is left of the bytes. Assumes nothing.
+-- `lines::masses` ends. The measure is what is left of the grid. Assumes nothing.
 use borrow.Author.Needs.{needs}
 use Prim.Native.Nat.{_≤_, _-_}
 use lib.ListN.{length}
-use Rattle.run_cases.proofs.lines.bytes.Statement.{statement}
-use Rattle.run_cases.proofs.lines.bytes.Tie as tie
+use Rattle.examples.proofs.lines.masses.Statement.{statement}
+use Rattle.examples.proofs.lines.masses.Tie as tie
 
 abbrev Inv-loop : tie.InvT-loop
-Inv-loop bytes k₀ k = k ≤ length bytes
+Inv-loop grid k₀ k = k ≤ length grid
 
 abbrev μ-loop : tie.MeasureT-loop
-μ-loop bytes k₀ k = length bytes - k
+μ-loop grid k₀ k = length grid - k
 
 loop-holds : tie.Need-loop-holds Inv-loop μ-loop
 loop-holds c = search needs
 
-shared-slice-read-wide : tie.Need-shared-slice-read-wide Inv-loop μ-loop
-shared-slice-read-wide c = search needs
+mul-natural : tie.Need-mul-natural Inv-loop μ-loop
+mul-natural c = search needs
 
-wide-requires : tie.Need-wide-requires Inv-loop μ-loop
-wide-requires c κs = search needs
+shared-slice-read-natural : tie.Need-shared-slice-read-natural Inv-loop μ-loop
+shared-slice-read-natural c = search needs
 
-print-hex-requires : tie.Need-print-hex-requires Inv-loop μ-loop
-print-hex-requires c κs = search needs
+natural-requires : tie.Need-natural-requires Inv-loop μ-loop
+natural-requires c κs = search needs
 
 add-k : tie.Need-add-k Inv-loop μ-loop
 add-k c = search needs
@@ -38,16 +38,16 @@ end-requires c κs = search needs
 returns : tie.Need-returns Inv-loop μ-loop
 returns c = search needs
 
-pub bytes-spec : {M : Type 1} → statement M
-bytes-spec =
+pub masses-spec : {M : Type 1} → statement M
+masses-spec =
     tie.close
     (tie.spec
     Inv-loop
     μ-loop
     loop-holds
-    shared-slice-read-wide
-    wide-requires
-    print-hex-requires
+    mul-natural
+    shared-slice-read-natural
+    natural-requires
     add-k
     loop-less
     loop-again

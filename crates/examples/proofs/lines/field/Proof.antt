@@ -1,8 +1,8 @@
 -- `lines::field` is safe: a wider type holds the same number. Assumes nothing.
 use borrow.Author.Needs.{needs}
 use mir.Facts.{toZ-ofZ, sfits-widen}
-use Rattle.run_cases.proofs.lines.field.Statement.{statement}
-use Rattle.run_cases.proofs.lines.field.Tie as tie
+use Rattle.examples.proofs.lines.field.Statement.{statement}
+use Rattle.examples.proofs.lines.field.Tie as tie
 
 cast-integer : tie.Need-cast-integer
 cast-integer c = rw (toZ-ofZ (c .fits .n)) (sfits-widen tt (c .fits .n))

@@ -2,8 +2,8 @@
 use borrow.Author.Needs.{needs}
 use native.Mathlib.Omega.{arith}
 use Rattle.update.proofs.Rounded.{less-fits, less-cast, less-small, plain-cast}
-use Rattle.run_cases.proofs.lines.integer.Statement.{statement}
-use Rattle.run_cases.proofs.lines.integer.Tie as tie
+use Rattle.examples.proofs.lines.integer.Statement.{statement}
+use Rattle.examples.proofs.lines.integer.Tie as tie
 
 slice-aggregate-write-all : tie.Need-slice-aggregate-write-all
 slice-aggregate-write-all c = search needs

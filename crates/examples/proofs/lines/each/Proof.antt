@@ -2,8 +2,8 @@
 use borrow.Author.Needs.{needs}
 use Prim.Native.Nat.{_≤_, _-_, _/_}
 use lib.ListN.{length}
-use Rattle.run_cases.proofs.lines.each.Statement.{statement}
-use Rattle.run_cases.proofs.lines.each.Tie as tie
+use Rattle.examples.proofs.lines.each.Statement.{statement}
+use Rattle.examples.proofs.lines.each.Tie as tie
 
 abbrev Inv-loop : tie.InvT-loop
 Inv-loop records k₀ k = k ≤ length records / 14
