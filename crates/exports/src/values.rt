@@ -8,7 +8,7 @@ ghost use lib.ListN.{length};
 ghost use Rattle.spline.specs.Answers.{threeOf};
 ghost use Rattle.exports.specs.Values.{three, sums, settings, Narrow};
 
-// Copies numbers into a slice of as many.
+// Copies numbers into a slice of as many. Every export with values calls it.
 pub fn fill(source: &[i64], values: &mut [i64])
     requires { ⌜ length (now source) ≡ length (now values) ⌝ }
     ensures { λ _. ⌜ now (values .exit) ≡ now (source .entry) ⌝ }
@@ -27,7 +27,7 @@ pub fn of_weights(w: AxisWeights) -> [i64; 3]
     [w.lower as i64, w.nearest as i64, w.upper as i64]
 }
 
-// The sums of an accepted set.
+// The sums of an accepted set. `gondwize_totals` calls it.
 pub fn of_totals(t: Totals) -> [i64; 5]
     requires { ⌜ t .mass < 131073 ⌝ }
     ensures { λ r. ⌜ r ≡ sums t ⌝ }
@@ -35,7 +35,7 @@ pub fn of_totals(t: Totals) -> [i64; 5]
     [t.mass as i64, t.px, t.py, t.spin, t.motion]
 }
 
-// The values of an accepted header.
+// The values of an accepted header. `gondwize_read_file` calls it.
 pub fn of_header(h: Header) -> [i64; 6]
     requires { ⌜ Narrow h ⌝ }
     ensures { λ r. ⌜ r ≡ settings h ⌝ }

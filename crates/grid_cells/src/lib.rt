@@ -23,7 +23,7 @@ fn add_mass_at(cells: &mut [u64], k: usize, v: u64)
     cells[k] += v;
 }
 
-// Adds u, v and w at cell k and its two neighbours.
+// Adds u, v and w at cell k and its two neighbours. `scatter_block` calls it.
 pub fn add_row(cells: &mut [i64], k: usize, u: i64, v: i64, w: i64)
     requires { ⌜ RowLimits (now cells) k u v w ⌝ }
     ensures { λ r. ⌜ now (cells .exit) ≡ addRow (now (cells .entry)) k u v w ⌝ }
@@ -33,7 +33,7 @@ pub fn add_row(cells: &mut [i64], k: usize, u: i64, v: i64, w: i64)
     add_at(cells, k + 1, w);
 }
 
-// Adds u, v and w at cell k and its two neighbours in a grid of masses.
+// Adds u, v and w at cell k and its two neighbours in a grid of masses. `scatter_block` calls it.
 pub fn add_mass_row(cells: &mut [u64], k: usize, u: u64, v: u64, w: u64)
     requires { ⌜ MassRowLimits (now cells) k u v w ⌝ }
     ensures { λ r. ⌜ now (cells .exit) ≡ addMassRow (now (cells .entry)) k u v w ⌝ }

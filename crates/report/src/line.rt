@@ -1,4 +1,4 @@
-// The lines of a report, each appended to a buffer with room for it.
+// The lines of a report, each appended to a buffer with room for it. `report` calls these.
 use crate::number;
 use particle::Particle;
 use particles::Totals;
