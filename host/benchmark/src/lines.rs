@@ -1,0 +1,204 @@
+//! What is timed: every operation on a bath.
+
+use engine::{read_record, GridBuffers, Header, Particle, HEADER_LENGTH, RECORD_LENGTH};
+
+use crate::bath::Bath;
+use crate::library::{Library, PROVED};
+use crate::measure::Subject;
+
+/// An operation, or as many calls of it as the bath has records.
+#[derive(Clone, Copy, Debug, PartialEq, Eq)]
+#[allow(missing_docs)]
+pub enum Line {
+    Run,
+    Step,
+    Scatter,
+    Update,
+    Gather,
+    CheckSet,
+    Totals,
+    ReadFile,
+    ReadRecords,
+    WriteRecords,
+    Weights,
+    WriteHeaders,
+}
+
+impl Line {
+    /// All of them.
+    pub const ALL: [Line; 12] = [
+        Line::Run,
+        Line::Step,
+        Line::Scatter,
+        Line::Update,
+        Line::Gather,
+        Line::CheckSet,
+        Line::Totals,
+        Line::ReadFile,
+        Line::ReadRecords,
+        Line::WriteRecords,
+        Line::Weights,
+        Line::WriteHeaders,
+    ];
+
+    /// What the table calls it.
+    pub fn name(self) -> &'static str {
+        match self {
+            Line::Run => "a run's step",
+            Line::Step => "step",
+            Line::Scatter => "scatter",
+            Line::Update => "update",
+            Line::Gather => "gather",
+            Line::CheckSet => "check a set",
+            Line::Totals => "totals",
+            Line::ReadFile => "read a file",
+            Line::ReadRecords => "read a record",
+            Line::WriteRecords => "write a record",
+            Line::Weights => "weights",
+            Line::WriteHeaders => "write a header",
+        }
+    }
+}
+
+/// A line on a bath, with every buffer that it needs.
+pub struct Timed {
+    line: Line,
+    bath: Bath,
+    file: Vec<u8>,
+    particles: Vec<Particle>,
+    records: Vec<u8>,
+    mass: Vec<u64>,
+    momentum: [Vec<i64>; 2],
+    velocity: [Vec<i64>; 2],
+    grid: [Vec<i64>; 2],
+}
+
+impl Timed {
+    /// The buffers hold what a scatter and an update leave.
+    pub fn new(line: Line, bath: &Bath) -> Self {
+        let zero = || vec![0; bath.nodes()];
+        let (mut mass, mut x, mut y) = (vec![0; bath.nodes()], zero(), zero());
+        let mut grid = GridBuffers {
+            mass: &mut mass,
+            x: &mut x,
+            y: &mut y,
+        };
+        assert_eq!(
+            PROVED.scatter(bath.settings.size, &bath.records, &mut grid),
+            0
+        );
+        let momentum = [grid.x.to_vec(), grid.y.to_vec()];
+        assert_eq!(PROVED.update(bath.settings, &mut grid), 0);
+        let records = bath.records.chunks_exact(RECORD_LENGTH);
+        Timed {
+            line,
+            bath: bath.clone(),
+            file: bath.file(),
+            particles: records
+                .map(|record| read_record(record).expect("a record"))
+                .collect(),
+            records: bath.records.clone(),
+            mass,
+            momentum,
+            velocity: [x.clone(), y.clone()],
+            grid: [x, y],
+        }
+    }
+
+    /// How many steps or records one call stands for.
+    pub fn parts(&self) -> usize {
+        match self.line {
+            Line::Run => self.bath.steps,
+            Line::ReadRecords | Line::WriteRecords | Line::Weights | Line::WriteHeaders => {
+                self.particles.len()
+            }
+            _ => 1,
+        }
+    }
+}
+
+impl Subject for Timed {
+    fn prepare(&mut self) {
+        match self.line {
+            Line::Update => {
+                self.grid[0].copy_from_slice(&self.momentum[0]);
+                self.grid[1].copy_from_slice(&self.momentum[1]);
+            }
+            Line::Gather | Line::Step | Line::Run => {
+                self.records.copy_from_slice(&self.bath.records)
+            }
+            _ => {}
+        }
+    }
+
+    fn call(&mut self, library: &Library) {
+        let Bath {
+            settings,
+            ref records,
+            steps,
+        } = self.bath;
+        let [x, y] = &mut self.grid;
+        let mut grid = GridBuffers {
+            mass: &mut self.mass,
+            x,
+            y,
+        };
+        let answer = match self.line {
+            Line::Run => {
+                let mut completed = [0];
+                let answer = library.run(
+                    settings,
+                    steps,
+                    &mut self.records,
+                    &mut grid,
+                    &mut completed,
+                );
+                assert_eq!(completed[0] as usize, steps);
+                answer
+            }
+            Line::Step => library.step(settings, &mut self.records, &mut grid),
+            Line::Scatter => library.scatter(settings.size, records, &mut grid),
+            Line::Update => library.update(settings, &mut grid),
+            Line::Gather => {
+                let [x, y] = &self.velocity;
+                library.gather(settings.size, &mut self.records, x, y)
+            }
+            Line::CheckSet => library.check_set(settings.size, records, &mut [0]),
+            Line::Totals => library.totals(settings.size, records, &mut [0; 5]),
+            Line::ReadFile => library.read_file(&self.file, &mut [0; 6]),
+            Line::ReadRecords => {
+                let mut values = [0; 10];
+                let records = records.chunks_exact(RECORD_LENGTH);
+                records.fold(0, |answer, record| {
+                    answer | library.read_record(record, &mut values)
+                })
+            }
+            Line::WriteRecords => {
+                let records = self.records.chunks_exact_mut(RECORD_LENGTH);
+                let both = self.particles.iter().zip(records);
+                both.fold(0, |answer, (p, record)| {
+                    answer | library.write_record(p, record)
+                })
+            }
+            Line::Weights => {
+                let mut values = [0; 3];
+                let offsets = self.particles.iter().map(|p| i64::from(p.x % 64) - 32);
+                offsets.fold(0, |answer, q| answer | library.weights(q, &mut values))
+            }
+            Line::WriteHeaders => {
+                let mut bytes = [0; HEADER_LENGTH];
+                let headers = self.particles.iter().map(|p| Header {
+                    size: settings.size,
+                    gx: p.bxx,
+                    gy: p.bxy,
+                    count: p.x.into(),
+                    steps: p.y.into(),
+                });
+                headers.fold(0, |answer, header| {
+                    answer | library.write_header(&header, &mut bytes)
+                })
+            }
+        };
+        assert_eq!(answer, 0, "{}", self.line.name());
+    }
+}

@@ -1,0 +1,64 @@
+//! The functions by C's calling convention, so that both libraries are called in the same way.
+
+use std::slice::{from_raw_parts, from_raw_parts_mut};
+
+macro_rules! pointer {
+    (read $element:ty) => { *const $element };
+    (write $element:ty) => { *mut $element };
+}
+
+macro_rules! slice {
+    (read $slice:ident $length:ident) => {
+        from_raw_parts($slice, $length)
+    };
+    (write $slice:ident $length:ident) => {
+        from_raw_parts_mut($slice, $length)
+    };
+}
+
+/// For each function: its numbers, then its slices as pointers with lengths, in the header's order.
+macro_rules! exports {
+    ($($(#[$doc:meta])* $name:ident($($number:ident: $type:ty),*; $($slice:ident $length:ident: $kind:tt $element:ty),*);)*) => {
+        $(
+            $(#[$doc])*
+            ///
+            /// # Safety
+            ///
+            /// Every pointer leads to as many elements as the length after it says, and what is
+            /// written to overlaps nothing else of the call.
+            #[allow(clippy::too_many_arguments)]
+            pub unsafe extern "C" fn $name($($number: $type,)* $($slice: pointer!($kind $element), $length: usize),*) -> u64 {
+                // SAFETY: by what is asked of the caller.
+                $(let $slice = unsafe { slice!($kind $slice $length) };)*
+                crate::$name($($number,)* $($slice),*)
+            }
+        )*
+    };
+}
+
+exports! {
+    /// Read a record.
+    read_record(; bytes bytes_length: read u8, values values_length: write i64);
+    /// Write a record.
+    write_record(identifier: u16, mass: u16, x: u16, y: u16, vx: i16, vy: i16, bxx: i16, bxy: i16, byx: i16, byy: i16; bytes bytes_length: write u8);
+    /// Check a set.
+    check_set(nx: usize, ny: usize; records records_length: read u8, count count_length: write u64);
+    /// Totals.
+    totals(nx: usize, ny: usize; records records_length: read u8, values values_length: write i64);
+    /// Weights.
+    weights(q: i64; values values_length: write i64);
+    /// Scatter.
+    scatter(nx: usize, ny: usize; records records_length: read u8, mass mass_length: write u64, px px_length: write i64, py py_length: write i64);
+    /// Update.
+    update(nx: usize, ny: usize, gx: i64, gy: i64; mass mass_length: read u64, px px_length: write i64, py py_length: write i64);
+    /// Gather.
+    gather(nx: usize, ny: usize; records records_length: write u8, ux ux_length: read i64, uy uy_length: read i64);
+    /// Step.
+    step(nx: usize, ny: usize, gx: i64, gy: i64; records records_length: write u8, mass mass_length: write u64, px px_length: write i64, py py_length: write i64);
+    /// Run.
+    run(nx: usize, ny: usize, gx: i64, gy: i64, steps: usize; records records_length: write u8, mass mass_length: write u64, px px_length: write i64, py py_length: write i64, completed completed_length: write u64);
+    /// Read a file.
+    read_file(; bytes bytes_length: read u8, values values_length: write i64);
+    /// Write a header.
+    write_header(nx: usize, ny: usize, gx: i16, gy: i16, count: usize, steps: usize; bytes bytes_length: write u8);
+}

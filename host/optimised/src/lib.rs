@@ -1,0 +1,38 @@
+//! Document 01 in Rust, written for speed: what the proved engine is measured against.
+//!
+//! The functions take what those of `include/gondwize.h` take, in the same order, a slice for each
+//! pointer with its length, and answer the same numbers. Records are unpacked once per call, as two
+//! words each; scratch memory is on the stack and never cleared; indices that the checks have shown
+//! to be in range are not checked again.
+
+#![warn(missing_docs)]
+
+pub mod c;
+mod file;
+mod particle;
+mod set;
+mod simulation;
+mod spline;
+mod transfer;
+mod update;
+
+pub use file::{read_file, write_header};
+pub use particle::{read_record, write_record};
+pub use set::{check_set, totals};
+pub use simulation::{run, step};
+pub use spline::weights;
+pub use transfer::{gather, scatter};
+pub use update::update;
+
+/// The answer where the slice for the values has another length than they.
+const WRONG_OUTPUT: u64 = u64::MAX;
+
+/// A refusal's number and place as one answer.
+const fn refused(number: u64, place: usize) -> u64 {
+    number << 32 | place as u64
+}
+
+/// The answer of a call without values.
+fn answer(result: Result<(), u64>) -> u64 {
+    result.err().unwrap_or(0)
+}

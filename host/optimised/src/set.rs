@@ -1,0 +1,143 @@
+//! A particle set: its records checked one after the other.
+
+use std::mem::MaybeUninit;
+
+use crate::particle::{Particle, RECORD_LENGTH};
+use crate::{refused, WRONG_OUTPUT};
+
+/// The largest number of records.
+pub const MOST: usize = 4096;
+
+/// Room for the largest set, not cleared.
+pub type Room = [MaybeUninit<Particle>; MOST];
+
+/// The last place on an axis of n nodes.
+#[inline(always)]
+pub fn last(n: usize) -> i32 {
+    (64 * (n - 1) - 33) as i32
+}
+
+/// Whether Nx and Ny are 4 to 48.
+pub fn check_size(nx: usize, ny: usize) -> Result<(), u64> {
+    if (4..=48).contains(&nx) && (4..=48).contains(&ny) {
+        Ok(())
+    } else {
+        Err(refused(2, 0))
+    }
+}
+
+/// Whether as many bytes are whole records, and not too many.
+pub fn check_length(bytes: usize) -> Result<(), u64> {
+    if bytes.is_multiple_of(RECORD_LENGTH) && bytes <= MOST * RECORD_LENGTH {
+        Ok(())
+    } else {
+        Err(refused(1, 0))
+    }
+}
+
+/// Checks every record and hands each to `found`.
+#[inline(always)]
+pub fn walk(
+    nx: usize,
+    ny: usize,
+    records: &[u8],
+    mut found: impl FnMut(usize, Particle),
+) -> Result<(), u64> {
+    let (right, top) = (last(nx), last(ny));
+    let mut least = 0;
+    let mut mass = 0;
+    for (k, record) in records.as_chunks::<RECORD_LENGTH>().0.iter().enumerate() {
+        let p = Particle::unpack(record);
+        p.check(k)?;
+        if p.x < 32 || p.x > right || p.y < 32 || p.y > top {
+            return Err(refused(7, k));
+        }
+        if u32::from(p.identifier) < least {
+            return Err(refused(8, k));
+        }
+        least = u32::from(p.identifier) + 1;
+        mass += p.mass;
+        if mass > 131_072 {
+            return Err(refused(9, k));
+        }
+        found(k, p);
+    }
+    Ok(())
+}
+
+/// Checks every record and unpacks it.
+pub fn unpack<'a>(
+    nx: usize,
+    ny: usize,
+    records: &[u8],
+    room: &'a mut Room,
+) -> Result<&'a mut [Particle], u64> {
+    walk(nx, ny, records, |k, p| {
+        // SAFETY: a checked length has at most as many records as the room.
+        unsafe { room.get_unchecked_mut(k) }.write(p);
+    })?;
+    let count = records.len() / RECORD_LENGTH;
+    // SAFETY: the walk has written as many.
+    Ok(unsafe { room[..count].assume_init_mut() })
+}
+
+/// Packs every particle into its record.
+pub fn pack(particles: &[Particle], records: &mut [u8]) {
+    for (p, record) in particles.iter().zip(records.as_chunks_mut().0) {
+        p.pack(record);
+    }
+}
+
+/// The number of records of an accepted set.
+fn checked(nx: usize, ny: usize, records: &[u8]) -> Result<usize, u64> {
+    check_size(nx, ny)?;
+    check_length(records.len())?;
+    walk(nx, ny, records, |_, _| ())?;
+    Ok(records.len() / RECORD_LENGTH)
+}
+
+/// Check a set: one value, the number of records.
+pub fn check_set(nx: usize, ny: usize, records: &[u8], count: &mut [u64]) -> u64 {
+    let [count] = count else {
+        return WRONG_OUTPUT;
+    };
+    match checked(nx, ny, records) {
+        Ok(found) => {
+            *count = found as u64;
+            0
+        }
+        Err(refusal) => refusal,
+    }
+}
+
+/// The sums over an accepted set.
+fn summed(nx: usize, ny: usize, records: &[u8]) -> Result<[i64; 5], u64> {
+    check_size(nx, ny)?;
+    check_length(records.len())?;
+    let [mut mass, mut px, mut py, mut spin, mut motion] = [0; 5];
+    walk(nx, ny, records, |_, p| {
+        let m = i64::from(p.mass);
+        let (x, y) = (p.x, p.y);
+        let (vx, vy) = (p.vx, p.vy);
+        mass += m;
+        px += m * i64::from(vx);
+        py += m * i64::from(vy);
+        spin += m * i64::from(x * vy - y * vx + p.byx - p.bxy);
+        motion += m * i64::from(vx * vx + vy * vy);
+    })?;
+    Ok([mass, px, py, spin, motion])
+}
+
+/// Totals: five values.
+pub fn totals(nx: usize, ny: usize, records: &[u8], values: &mut [i64]) -> u64 {
+    let Ok(values) = <&mut [i64; 5]>::try_from(values) else {
+        return WRONG_OUTPUT;
+    };
+    match summed(nx, ny, records) {
+        Ok(sums) => {
+            *values = sums;
+            0
+        }
+        Err(refusal) => refusal,
+    }
+}

@@ -1,0 +1,105 @@
+//! A step and a run.
+
+use std::mem::MaybeUninit;
+
+use crate::set::{check_length, check_size, pack, unpack, Room, MOST};
+use crate::spline::TABLE;
+use crate::transfer::{gather_all, scatter_all};
+use crate::update::{check_gravity, check_lengths, update_all};
+use crate::{refused, WRONG_OUTPUT};
+
+/// The completed steps, and the refusal if one stopped the run.
+#[allow(clippy::too_many_arguments)]
+fn ran(
+    nx: usize,
+    ny: usize,
+    gx: i64,
+    gy: i64,
+    steps: usize,
+    records: &mut [u8],
+    mass: &mut [u64],
+    px: &mut [i64],
+    py: &mut [i64],
+) -> Result<usize, (usize, u64)> {
+    let entry = || {
+        check_size(nx, ny)?;
+        check_length(records.len())?;
+        check_lengths(nx * ny, [mass.len(), px.len(), py.len()])?;
+        check_gravity(gx, gy)?;
+        if steps > 10_000 {
+            Err(refused(17, 0))
+        } else {
+            Ok(())
+        }
+    };
+    entry().map_err(|refusal| (0, refusal))?;
+    let mut rooms: [Room; 2] = [[MaybeUninit::uninit(); MOST]; 2];
+    let [from, to] = &mut rooms;
+    let count = unpack(nx, ny, records, from)
+        .map_err(|refusal| (0, refusal))?
+        .len();
+    let (mut from, mut to) = (&mut from[..count], &mut to[..count]);
+    let table = &TABLE;
+    let mut stopped = None;
+    let mut completed = 0;
+    while completed < steps {
+        // SAFETY: unpacking or the step before has written these.
+        let particles = unsafe { from.assume_init_ref() };
+        scatter_all(particles, nx, table, mass, px, py);
+        update_all(gx, gy, mass, px, py);
+        if let Err(refusal) = gather_all(particles, nx, ny, table, px, py, to) {
+            stopped = Some(refusal);
+            break;
+        }
+        completed += 1;
+        (from, to) = (to, from);
+    }
+    if completed > 0 {
+        // SAFETY: as above.
+        pack(unsafe { from.assume_init_ref() }, records);
+    }
+    stopped.map_or(Ok(completed), |refusal| Err((completed, refusal)))
+}
+
+/// Step.
+#[allow(clippy::too_many_arguments)]
+pub fn step(
+    nx: usize,
+    ny: usize,
+    gx: i64,
+    gy: i64,
+    records: &mut [u8],
+    mass: &mut [u64],
+    px: &mut [i64],
+    py: &mut [i64],
+) -> u64 {
+    match ran(nx, ny, gx, gy, 1, records, mass, px, py) {
+        Ok(_) => 0,
+        Err((_, refusal)) => refusal,
+    }
+}
+
+/// Run: one value, the number of completed steps.
+#[allow(clippy::too_many_arguments)]
+pub fn run(
+    nx: usize,
+    ny: usize,
+    gx: i64,
+    gy: i64,
+    steps: usize,
+    records: &mut [u8],
+    mass: &mut [u64],
+    px: &mut [i64],
+    py: &mut [i64],
+    completed: &mut [u64],
+) -> u64 {
+    let [completed] = completed else {
+        return WRONG_OUTPUT;
+    };
+    let (count, answer) = match ran(nx, ny, gx, gy, steps, records, mass, px, py) {
+        Ok(count) => (count, 0),
+        Err(stopped) => stopped,
+    };
+    *completed = count as u64;
+    answer
+}
