@@ -15,9 +15,8 @@ use lib.ListN.{length, take}
 use Rattle.refusal.specs.Refused.{Answer, result, refused, refuseIf, andThen}
 use Rattle.refusal.proofs.Answers.{passed, went-on, same-result, same-refusal, not-refused}
 use Rattle.particle.specs.Record.{keptUnless}
-use Rattle.particles.specs.Set.{setOf, totalsOf}
-use Rattle.particles.specs.Walk.{walked}
-use Rattle.particles.specs.declared.Totals.{Totals}
+use Rattle.particles.specs.Set.{setOf}
+use Rattle.particles.specs.Walk.{counted}
 use Rattle.bath_file.specs.declared.Header.{Header}
 use Rattle.bath_file.specs.Layout.{headerLength, held, spare}
 use Rattle.bath_file.specs.File.{headerIn, headerOf, checkedHeader, headerAnswer, recordsAnswer, writeAnswer, written}
@@ -98,13 +97,13 @@ module _ (h : Header) (bytes : List ℕ) where
   unfolding recordsAnswer
   right-length n = rw (eq-eqb (length bytes) fileLength n)
 
-  pub records-accepted : length bytes ≡ fileLength → {t : Totals} → walked (h .nx) (h .ny) headerLength bytes (h .count) ≡ result t → recordsAnswer h bytes ≡ result h
+  pub records-accepted : length bytes ≡ fileLength → {m : ℕ} → counted (h .nx) (h .ny) headerLength bytes (h .count) ≡ result m → recordsAnswer h bytes ≡ result h
   records-accepted n e =
       let w = went-on (setOf (h .nx) (h .ny) headerLength bytes (h .count)) _ e in
       right-length n ∙ ap (λ a. andThen a (λ _. result h)) (w .1)
 
-  pub records-refused : length bytes ≡ fileLength → {n k : ℕ} → walked (h .nx) (h .ny) headerLength bytes (h .count) ≡ refused n k → recordsAnswer h bytes ≡ refused n k
-  records-refused n e = right-length n ∙ go (setOf (h .nx) (h .ny) headerLength bytes (h .count)) totalsOf e
+  pub records-refused : length bytes ≡ fileLength → {n k : ℕ} → counted (h .nx) (h .ny) headerLength bytes (h .count) ≡ refused n k → recordsAnswer h bytes ≡ refused n k
+  records-refused n e = right-length n ∙ go (setOf (h .nx) (h .ny) headerLength bytes (h .count)) length e
     where
       go : {A B : Type 0} (a : Answer A) (f : A → B) {n k : ℕ} → andThen a (λ x. result (f x)) ≡ refused n k → andThen a (λ _. result h) ≡ refused n k
       go (result x) f e = not-refused e

@@ -2,7 +2,7 @@
 use particle::RECORD_LENGTH;
 use particle::bits;
 use particle::limits;
-use particles::Totalled;
+use particles::Checked;
 use refusal::Refusal;
 ghost use mathlib.Core.Path.{_≡_};
 ghost use mathlib.Core.List.{[], _∷_};
@@ -117,9 +117,9 @@ fn check_records(h: Header, bytes: &[u8]) -> FileRead
     if bytes.len() != HEADER_LENGTH + RECORD_LENGTH * count {
         return FileRead::Refused(Refusal::Length);
     }
-    match particles::walk(h.nx, h.ny, bytes, HEADER_LENGTH, count) {
-        Totalled::Sums(_) => FileRead::Accepted(h),
-        Totalled::Refused(refusal) => FileRead::Refused(refusal),
+    match particles::check(h.nx, h.ny, bytes, HEADER_LENGTH, count) {
+        Checked::Records(_) => FileRead::Accepted(h),
+        Checked::Refused(refusal) => FileRead::Refused(refusal),
     }
 }
 
@@ -133,39 +133,38 @@ pub fn read_file(bytes: &[u8]) -> FileRead
     }
 }
 
-// The bytes of a header with these parts in its fields, and no spare bit set. `pack` calls it with parts that the fields hold.
-fn bytes_of(nx: u16, ny: u16, gx: u16, gy: u16, count: u16, steps: u16) -> [u8; HEADER_LENGTH]
-    requires { ⌜ Below (widths layout) (nx ∷ ny ∷ gx ∷ gy ∷ count ∷ steps ∷ 0 ∷ []) ⌝ }
-    ensures { λ r. ⌜ r ≡ cut byteWidths (join (widths layout) (nx ∷ ny ∷ gx ∷ gy ∷ count ∷ steps ∷ 0 ∷ [])) ⌝ }
+// Writes the header with these parts in its fields, and no spare bit set. `pack` calls it with parts that the fields hold.
+fn put(nx: u16, ny: u16, gx: u16, gy: u16, count: u16, steps: u16, bytes: &mut [u8])
+    requires { ⌜ Below (widths layout) (nx ∷ ny ∷ gx ∷ gy ∷ count ∷ steps ∷ 0 ∷ []) × (length (now bytes) ≡ headerLength) ⌝ }
+    ensures { λ _. ⌜ now (bytes .exit) ≡ cut byteWidths (join (widths layout) (nx ∷ ny ∷ gx ∷ gy ∷ count ∷ steps ∷ 0 ∷ [])) ⌝ }
 {
-    [
-        bits::byte(nx, 4, ny, 16),
-        bits::byte(ny, 16, gx, 1024),
-        bits::byte(0, 1, gx, 4),
-        bits::byte(gx, 64, gy, 256),
-        bits::byte(0, 1, gy, 1),
-        bits::byte(0, 1, count, 32),
-        bits::byte(count, 8, steps, 2048),
-        bits::byte(0, 1, steps, 8),
-        bits::byte(steps, 32, 0, 1),
-    ]
+    bytes[0] = bits::byte(nx, 4, ny, 16);
+    bytes[1] = bits::byte(ny, 16, gx, 1024);
+    bytes[2] = bits::byte(0, 1, gx, 4);
+    bytes[3] = bits::byte(gx, 64, gy, 256);
+    bytes[4] = bits::byte(0, 1, gy, 1);
+    bytes[5] = bits::byte(0, 1, count, 32);
+    bytes[6] = bits::byte(count, 8, steps, 2048);
+    bytes[7] = bits::byte(0, 1, steps, 8);
+    bytes[8] = bits::byte(steps, 32, 0, 1);
 }
 
-// The nine bytes that hold a header. `write_header` calls it with a header that it accepts.
-fn pack(h: Header) -> [u8; HEADER_LENGTH]
-    requires { ⌜ checkedHeader h (result h) ≡ result h ⌝ }
-    ensures { λ r. ⌜ r ≡ headerOf h ⌝ }
+// Writes the nine bytes that hold a header. `write_header` calls it with a header that it accepts.
+fn pack(h: Header, bytes: &mut [u8])
+    requires { ⌜ (checkedHeader h (result h) ≡ result h) × (length (now bytes) ≡ headerLength) ⌝ }
+    ensures { λ _. ⌜ now (bytes .exit) ≡ headerOf h ⌝ }
 {
     let gx = bits::residue(h.gx, 16384);
     let gy = bits::residue(h.gy, 16384);
-    bytes_of(
+    put(
         h.nx as u16,
         h.ny as u16,
         gx,
         gy,
         h.count as u16,
         h.steps as u16,
-    )
+        bytes,
+    );
 }
 
 // Write a header: any numbers, any buffer. A refused call leaves the buffer as it was.
@@ -179,8 +178,7 @@ pub fn write_header(h: Header, bytes: &mut [u8]) -> HeaderWritten
     match check_values(h) {
         FileRead::Refused(refusal) => HeaderWritten::Refused(refusal),
         FileRead::Accepted(accepted) => {
-            let packed = pack(accepted);
-            particle::store(&packed, bytes);
+            pack(accepted, bytes);
             HeaderWritten::Done
         }
     }

@@ -2,7 +2,8 @@
 ghost use mathlib.Core.Path.{_≡_};
 ghost use Prim.Native.Nat.{_+_, _*_, _≤_};
 ghost use lib.ListN.{length};
-use crate::lines;
+use crate::answers;
+use crate::records;
 use particle::Particle;
 use particle::RECORD_LENGTH;
 use simulation::Settings;
@@ -53,15 +54,17 @@ pub fn put(set: &mut [u8], k: usize, p: Particle)
 }
 
 fn left(records: &[u8], mass: &[u64], px: &[i64], py: &[i64]) {
-    lines::records(records);
+    records::show(records);
     lines::masses(mass);
+    lines::end();
     lines::grid(px);
+    lines::end();
     lines::grid(py);
+    lines::end();
 }
 
 fn step(settings: Settings, records: &mut [u8], mass: &mut [u64], px: &mut [i64], py: &mut [i64]) {
-    let answer = simulation::step(settings, records, mass, px, py);
-    lines::stepped(answer);
+    answers::stepped(simulation::step(settings, records, mass, px, py));
     left(records, mass, px, py);
 }
 
@@ -73,8 +76,7 @@ fn run(
     px: &mut [i64],
     py: &mut [i64],
 ) {
-    let answer = simulation::run(settings, steps, records, mass, px, py);
-    lines::ran(answer);
+    answers::ran(simulation::run(settings, steps, records, mass, px, py));
     left(records, mass, px, py);
 }
 

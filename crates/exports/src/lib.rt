@@ -15,7 +15,8 @@ use simulation::Ran;
 use simulation::Settings;
 use simulation::Stepped;
 use spline::Weighed;
-use transfer::Transferred;
+use transfer::Moved;
+use transfer::Scattered;
 use update::Updated;
 ghost use mathlib.Core.Path.{_≡_};
 ghost use Prim.Native.Nat.{_*_};
@@ -155,8 +156,8 @@ pub extern "C" fn gondwize_scatter(
     ensures { λ r. ⌜ Tells (λ told. ScatterIs nx ny (now (records .entry)) (now (mass .entry)) (now (px .entry)) (now (py .entry)) told (now (mass .exit)) (now (px .exit)) (now (py .exit))) r ⌝ }
 {
     match transfer::scatter(nx, ny, records, mass, px, py) {
-        Transferred::Refused(refusal) => answer::code(refusal),
-        Transferred::Done => 0,
+        Scattered::Refused(refusal) => answer::code(refusal),
+        Scattered::Done => 0,
     }
 }
 
@@ -191,8 +192,8 @@ pub extern "C" fn gondwize_gather(
     ensures { λ r. ⌜ Tells (λ told. GatherIs nx ny (now (records .entry)) (now (ux .entry)) (now (uy .entry)) told (now (records .exit))) r ⌝ }
 {
     match transfer::gather(nx, ny, records, ux, uy) {
-        Transferred::Refused(refusal) => answer::code(refusal),
-        Transferred::Done => 0,
+        Moved::Refused(refusal) => answer::code(refusal),
+        Moved::Done => 0,
     }
 }
 

@@ -2,15 +2,17 @@
 --     or-left, or-right          the first of two tests decides, or the second
 --     beyond-low, beyond-high    a number against ±most, in two comparisons
 --     off-low, off-high          a coordinate against the two ends of an axis
---     check-follow, checks-follow     records that pass leave the answer to what follows
+--     check-follow, checks-follow, checks-append     records that pass leave the answer to what follows
 --     Passed, passed             what is known of a record that passes
 -- Assumes nothing.
 use mathlib.Core.Path.{_≡_, refl, sym, ap, subst, _∙_}
 use mathlib.Core.Bool.{Bool, true, false, not, _&&_, _||_}
-use mathlib.Core.List.{List, [], _∷_}
-use Prim.Native.Nat.{ℕ, suc, _-_, _*_, _≤_}
+use mathlib.Core.List.{List, [], _∷_, _++_}
+use Prim.Native.Nat.{ℕ, suc, _+_, _-_, _*_, _≤_}
+use native.Mathlib.Nat.{add-zero}
 use native.Mathlib.Omega.{arith}
 use lib.Dec.{T, leb, ltb}
+use lib.ListN.{length}
 use lib.IntN.{ℤ, pos, negsuc, natAbs, _-ℤ_}
 use lib.Signed.{ltZ, nonNeg}
 use mir.Facts.{and-yes}
@@ -78,6 +80,16 @@ checks-follow nx ny move k (p ∷ ps) rest =
     ∙ ap (follow (moveCheck nx ny p (move p) k (result tt))) (checks-follow nx ny move (suc k) ps rest)
     ∙ sym (follow-follow (moveCheck nx ny p (move p) k (result tt)) (moveChecks nx ny move (suc k) ps (result tt)) rest)
     ∙ ap (λ a. follow a rest) (sym (check-follow nx ny p (move p) k (moveChecks nx ny move (suc k) ps (result tt))))
+
+pub checks-append : {A : Type 0} (nx ny : ℕ) (move : Particle → Particle) (k : ℕ) (ps qs : List Particle) (rest : Answer A) → moveChecks nx ny move k (ps ++ qs) rest ≡ moveChecks nx ny move k ps (moveChecks nx ny move (k + length ps) qs rest)
+unfolding moveChecks
+checks-append nx ny move k [] qs rest = ap (λ j. moveChecks nx ny move j qs rest) (sym (add-zero k))
+checks-append nx ny move k (p ∷ ps) qs rest =
+    ap (moveCheck nx ny p (move p) k)
+    (checks-append nx ny move (suc k) ps qs rest ∙ ap (λ j. moveChecks nx ny move (suc k) ps (moveChecks nx ny move j qs rest)) (next (length ps)))
+  where
+    next : (n : ℕ) → suc k + n ≡ k + suc n
+    next n = omega arith
 
 -- ---- a record that passes
 

@@ -1,6 +1,6 @@
 -- A gather that is not refused keeps a particle set within its limits.
 --     set-kept      the moved particles are within the limits
---     target-set    the array that `gather_all` leaves holds such a set
+--     target-set    the array that `gather_from` leaves holds such a set
 -- Assumes nothing.
 use mathlib.Core.Path.{_≡_, refl, sym, ap, ap₂, subst, subst₂, _∙_}
 use mathlib.Core.List.{List, [], _∷_, map}
@@ -16,7 +16,7 @@ use Rattle.apic.specs.Limits.{ParticleLimits, SetLimits, Rising}
 use Rattle.unpacked.specs.Unpacked.{unpacked, particlesOf, UnpackedSet}
 use Rattle.unpacked.proofs.Laws.{particlesOf-unpacked}
 use Rattle.gather_core.specs.declared.Gathered.{Gathered}
-use Rattle.gather_core.specs.Gather.{gathered, moveChecks, toldGathered, Gathers}
+use Rattle.gather_core.specs.Gather.{gathered, moveChecks, toldGathered, GathersFrom}
 use Rattle.gather_core.proofs.Checks.{Passed, passed}
 
 -- identifiers and masses are kept, by any move
@@ -74,11 +74,11 @@ module _ (nx ny : ℕ) (ux uy : List ℤ) where
         mass = subst (λ n. n ≤ 131072) (sym (mass-kept (gathered nx ny ux uy) same-identifier same-mass ps)) (l .mass);
       }
 
-pub target-set : {nx ny : ℕ} {source ux uy target : List ℤ} {r : Gathered} → Gathers nx ny source ux uy target r → toldGathered r ≡ result tt → UnpackedSet nx ny source → UnpackedSet nx ny target
-target-set {nx} {ny} {source} {ux} {uy} {target} g done s =
+pub target-set : {first nx ny : ℕ} {source ux uy target : List ℤ} {r : Gathered} → GathersFrom first nx ny source ux uy target r → toldGathered r ≡ result tt → UnpackedSet nx ny source → UnpackedSet nx ny target
+target-set {first} {nx} {ny} {source} {ux} {uy} {target} g done s =
     record {
       is = holds ∙ ap unpacked (sym reads);
-      limits = subst (SetLimits nx ny) (sym reads) (set-kept nx ny ux uy 0 (particlesOf source) (s .limits) (sym (g .answer) ∙ done));
+      limits = subst (SetLimits nx ny) (sym reads) (set-kept nx ny ux uy first (particlesOf source) (s .limits) (sym (g .answer) ∙ done));
     }
   where
     holds : target ≡ unpacked (map (gathered nx ny ux uy) (particlesOf source))

@@ -94,12 +94,12 @@ placed {nx} {ny} {source} {ux} {uy} g k h =
     nodes : (u : List ℤ) → NodeVelocities nx ny u → (nearestNode (particleAt source k .y) - 1) * nx + (nearestNode (particleAt source k .x) - 1) + 2 * nx + 2 < length u
     nodes u v = nodes-inside nx ny (particleAt source k .x) (particleAt source k .y) (length u) (touched nx (particleAt source k .x) (l .x-on)) (touched ny (particleAt source k .y) (l .y-on)) (v .count)
 
-pub moves : (nx ny k : ℕ) (p q : Particle) {identifier mass x y : ℤ} {a b : AffineVelocity} {target target′ : List ℤ} {r : Gathered} → Settled k nx ny identifier mass (x +ℤ a .v) (y +ℤ b .v) a b target target′ r → identifier ≡ pos (p .identifier) → mass ≡ pos (p .mass) → x ≡ pos (p .x) → y ≡ pos (p .y) → a ≡ alongXOf q → b ≡ alongYOf q → MovesOne nx ny k p q target target′ r
+pub moves : (nx ny index k : ℕ) (p q : Particle) {identifier mass x y : ℤ} {a b : AffineVelocity} {target target′ : List ℤ} {r : Gathered} → Settled index k nx ny identifier mass (x +ℤ a .v) (y +ℤ b .v) a b target target′ r → identifier ≡ pos (p .identifier) → mass ≡ pos (p .mass) → x ≡ pos (p .x) → y ≡ pos (p .y) → a ≡ alongXOf q → b ≡ alongYOf q → MovesOne nx ny index k p q target target′ r
 unfolding checkOf moveCheck
-moves nx ny k p q {target} s is-identifier is-mass is-x is-y is-a is-b =
+moves nx ny index k p q {target} s is-identifier is-mass is-x is-y is-a is-b =
     record {
       stored = s .stored ∙ (λ i. particleStored target (10 * k) (is-identifier i) (is-mass i) (is-x i +ℤ is-a i .v) (is-y i +ℤ is-b i .v) (is-a i) (is-b i));
-      answer = s .answer ∙ (λ i. checkOf k nx ny (is-x i +ℤ is-a i .v) (is-y i +ℤ is-b i .v) (is-a i) (is-b i));
+      answer = s .answer ∙ (λ i. checkOf index nx ny (is-x i +ℤ is-a i .v) (is-y i +ℤ is-b i .v) (is-a i) (is-b i));
     }
 
 -- a particle's own axes after the gather

@@ -2,9 +2,10 @@
 --     Walk          k records are moved, and the answer is that of the others
 --     start, turn, stop, end     it begins, goes on, leaves with a refusal, and ends
 -- Assumes nothing.
-use mathlib.Core.Path.{_≡_, refl, sym, ap, _∙_}
-use mathlib.Core.List.{List, [], _∷_, _++_, map}
+use mathlib.Core.Path.{_≡_, refl, sym, ap, ap₂, _∙_}
+use mathlib.Core.List.{List, [], _∷_, _++_, map, map-append}
 use Prim.Native.Nat.{ℕ, suc, _+_, _*_, _≤_, _<_}
+use native.Mathlib.Nat.{add-zero}
 use native.Mathlib.Numerals.{add-one}
 use native.Mathlib.Omega.{arith}
 use lib.ListN.{length, take, drop, getD, set, length-map}
@@ -19,7 +20,7 @@ use Rattle.unpacked.specs.Unpacked.{unpacked, particleAt, particlesOf, Unpacked
 use Rattle.unpacked.proofs.Laws.{count, particle-of, stored, length-stored, take-stored, all-stored}
 use Rattle.gather_core.specs.declared.Gathered.{Gathered}
 use Rattle.gather_core.specs.declared.Gathered.the-variants.{Done, Refused}
-use Rattle.gather_core.specs.Gather.{gathered, moveChecks, toldGathered, Gathers}
+use Rattle.gather_core.specs.Gather.{gathered, moveChecks, answerFrom, toldGathered, GathersFrom}
 use Rattle.gather_core.specs.Parts.{fiveStored, particleStored, MovesOne, alongXOf, alongYOf}
 use Rattle.gather_core.proofs.Checks.{follow, check-follow, refused-not, Passed, passed}
 
@@ -46,37 +47,39 @@ stored-is nx ny ux uy l at p h =
     nine : at + 5 + 4 ≡ at + 9
     nine = omega arith
 
-map-append : {A B : Type 0} (f : A → B) (xs ys : List A) → map f (xs ++ ys) ≡ map f xs ++ map f ys
-map-append f [] ys = refl
-map-append f (x ∷ xs) ys = ap (λ l. f x ∷ l) (map-append f xs ys)
-
 -- ---- the walk
 
 -- record k after its move
 abbrev pub movedAt : ℕ → ℕ → List ℤ → List ℤ → List ℤ → ℕ → Particle
 movedAt nx ny source ux uy k = gathered nx ny ux uy (particleAt source k)
 
--- the answer of the records from k on
-abbrev pub checksFrom : ℕ → ℕ → List ℤ → List ℤ → List ℤ → ℕ → Answer (Unit {0})
-checksFrom nx ny source ux uy k = moveChecks nx ny (gathered nx ny ux uy) k (drop k (particlesOf source)) (result tt)
+-- the answer of the particles from place k on, where the first of all is record `first`
+abbrev pub checksFrom : ℕ → ℕ → ℕ → List ℤ → List ℤ → List ℤ → ℕ → Answer (Unit {0})
+checksFrom first nx ny source ux uy k = answerFrom (first + k) nx ny ux uy (drop k (particlesOf source))
 
-pub record Walk (nx ny : ℕ) (source ux uy : List ℤ) (k : ℕ) (target : List ℤ) : Type 0 where
+pub record Walk (first nx ny : ℕ) (source ux uy : List ℤ) (k : ℕ) (target : List ℤ) : Type 0 where
   pub most : k ≤ length (particlesOf source)
   pub room : length target ≡ length source
   pub taken : take (10 * k) target ≡ unpacked (map (gathered nx ny ux uy) (take k (particlesOf source)))
-  pub answer : checksFrom nx ny source ux uy 0 ≡ checksFrom nx ny source ux uy k
+  pub answer : answerFrom first nx ny ux uy (particlesOf source) ≡ checksFrom first nx ny source ux uy k
 
-pub start : (nx ny : ℕ) (source ux uy target : List ℤ) → length target ≡ length source → Walk nx ny source ux uy 0 target
+pub start : (first nx ny : ℕ) (source ux uy target : List ℤ) → length target ≡ length source → Walk first nx ny source ux uy 0 target
 unfolding unpacked
-start nx ny source ux uy target e = record { most = omega arith; room = e; taken = refl; answer = refl }
+start first nx ny source ux uy target e =
+    record {
+      most = omega arith;
+      room = e;
+      taken = refl;
+      answer = ap (λ n. answerFrom n nx ny ux uy (particlesOf source)) (sym (add-zero first));
+    }
 
-module _ {nx ny : ℕ} {source ux uy : List ℤ} (s : UnpackedSet nx ny source) where
-  module _ {k : ℕ} {target : List ℤ} (w : Walk nx ny source ux uy k target) where
-    pub end : length (particlesOf source) ≤ k → Gathers nx ny source ux uy target Done
+module _ {first nx ny : ℕ} {source ux uy : List ℤ} (s : UnpackedSet nx ny source) where
+  module _ {k : ℕ} {target : List ℤ} (w : Walk first nx ny source ux uy k target) where
+    pub end : length (particlesOf source) ≤ k → GathersFrom first nx ny source ux uy target Done
     unfolding moveChecks
     end h =
         record {
-          answer = sym (w .answer ∙ ap (λ l. moveChecks nx ny (gathered nx ny ux uy) k l (result tt)) (ap (λ n. drop n (particlesOf source)) all ∙ drop-length (particlesOf source)));
+          answer = sym (w .answer ∙ ap (answerFrom (first + k) nx ny ux uy) (ap (λ n. drop n (particlesOf source)) all ∙ drop-length (particlesOf source)));
           particles =
               λ e. all-stored target (map (gathered nx ny ux uy) (particlesOf source)) (w .room ∙ count s ∙ ap (λ n. 10 * n) (sym (length-map (particlesOf source) (gathered nx ny ux uy))))
               (ap (λ n. take (10 * n) target) (length-map (particlesOf source) (gathered nx ny ux uy) ∙ sym all) ∙ w .taken ∙ ap (λ l. unpacked (map (gathered nx ny ux uy) l)) (ap (λ n. take n (particlesOf source)) all ∙ take-length (particlesOf source)));
@@ -85,25 +88,27 @@ module _ {nx ny : ℕ} {source ux uy : List ℤ} (s : UnpackedSet nx ny source) 
         all : k ≡ length (particlesOf source)
         all = omega (arith, w .most)
 
-    module _ (h : k < length (particlesOf source)) {target′ : List ℤ} {r : Gathered} (m : MovesOne nx ny k (particleAt source k) (movedAt nx ny source ux uy k) target target′ r) where
+    module _ (h : k < length (particlesOf source)) {target′ : List ℤ} {r : Gathered} (m : MovesOne nx ny (first + k) k (particleAt source k) (movedAt nx ny source ux uy k) target target′ r) where
       -- the answer of record k and of those behind it
-      from-here : checksFrom nx ny source ux uy 0 ≡ follow (toldGathered r) (checksFrom nx ny source ux uy (k + 1))
+      from-here : answerFrom first nx ny ux uy (particlesOf source) ≡ follow (toldGathered r) (checksFrom first nx ny source ux uy (k + 1))
       unfolding moveChecks
       from-here =
           w .answer
-          ∙ ap (λ l. moveChecks nx ny (gathered nx ny ux uy) k l (result tt)) (drop-cons (particlesOf source) k (particleAt source k) h ∙ ap (λ p. p ∷ drop (suc k) (particlesOf source)) (particle-of source k (particleAt source k) h))
-          ∙ check-follow nx ny (particleAt source k) (movedAt nx ny source ux uy k) k (checksFrom nx ny source ux uy (suc k))
-          ∙ ap (λ a. follow a (checksFrom nx ny source ux uy (suc k))) (sym (m .answer))
-          ∙ ap (λ n. follow (toldGathered r) (checksFrom nx ny source ux uy n)) (sym (add-one k))
+          ∙ ap (answerFrom (first + k) nx ny ux uy) (drop-cons (particlesOf source) k (particleAt source k) h ∙ ap (λ p. p ∷ drop (suc k) (particlesOf source)) (particle-of source k (particleAt source k) h))
+          ∙ check-follow nx ny (particleAt source k) (movedAt nx ny source ux uy k) (first + k) (answerFrom (suc (first + k)) nx ny ux uy (drop (suc k) (particlesOf source)))
+          ∙ ap₂ follow (sym (m .answer)) (ap₂ (λ n j. answerFrom n nx ny ux uy (drop j (particlesOf source))) next (sym (add-one k)))
+        where
+          next : suc (first + k) ≡ first + (k + 1)
+          next = omega arith
 
-      pub stop : (e : Refusal) → r ≡ Refused e → Gathers nx ny source ux uy target′ (Refused e)
+      pub stop : (e : Refusal) → r ≡ Refused e → GathersFrom first nx ny source ux uy target′ (Refused e)
       stop e is =
           record {
-            answer = sym (from-here ∙ ap (λ a. follow (toldGathered a) (checksFrom nx ny source ux uy (k + 1))) is);
+            answer = sym (from-here ∙ ap (λ a. follow (toldGathered a) (checksFrom first nx ny source ux uy (k + 1))) is);
             particles = λ no. refused-not no;
           }
 
-      pub turn : r ≡ Done → Walk nx ny source ux uy (k + 1) target′
+      pub turn : r ≡ Done → Walk first nx ny source ux uy (k + 1) target′
       turn is =
           record {
             most = omega (arith, h);
@@ -112,13 +117,13 @@ module _ {nx ny : ℕ} {source ux uy : List ℤ} (s : UnpackedSet nx ny source) 
                 ap (λ l. take (10 * (k + 1)) l) is-stored
                 ∙ take-stored target (map (gathered nx ny ux uy) (take k (particlesOf source))) (movedAt nx ny source ux uy k) k (length-map (take k (particlesOf source)) (gathered nx ny ux uy) ∙ length-take-le k (particlesOf source) (w .most)) (omega (arith, h, w .room, count s)) (w .taken)
                 ∙ ap unpacked (sym more);
-            answer = from-here ∙ ap (λ a. follow (toldGathered a) (checksFrom nx ny source ux uy (k + 1))) is;
+            answer = from-here ∙ ap (λ a. follow (toldGathered a) (checksFrom first nx ny source ux uy (k + 1))) is;
           }
         where
           is-stored : target′ ≡ stored target (10 * k) (movedAt nx ny source ux uy k)
           is-stored =
               m .stored
-              ∙ stored-is nx ny ux uy target (10 * k) (particleAt source k) (passed nx ny (particleAt source k) (movedAt nx ny source ux uy k) k (result tt) (sym (m .answer) ∙ ap toldGathered is) .0)
+              ∙ stored-is nx ny ux uy target (10 * k) (particleAt source k) (passed nx ny (particleAt source k) (movedAt nx ny source ux uy k) (first + k) (result tt) (sym (m .answer) ∙ ap toldGathered is) .0)
 
           more : map (gathered nx ny ux uy) (take (k + 1) (particlesOf source)) ≡ map (gathered nx ny ux uy) (take k (particlesOf source)) ++ movedAt nx ny source ux uy k ∷ []
           more =

@@ -59,11 +59,15 @@ unfoldable pub moveChecks : {A : Type 0} → ℕ → ℕ → (Particle → Parti
 moveChecks nx ny move k [] rest = rest
 moveChecks nx ny move k (p ∷ ps) rest = moveCheck nx ny p (move p) k (moveChecks nx ny move (suc k) ps rest)
 
--- the answer for a list of particles
-abbrev pub gatherAnswer : ℕ → ℕ → List ℤ → List ℤ → List Particle → Answer (Unit {0})
-gatherAnswer nx ny ux uy ps = moveChecks nx ny (gathered nx ny ux uy) 0 ps (result tt)
+-- the answer for a list of particles, the first of which is record `first`
+abbrev pub answerFrom : ℕ → ℕ → ℕ → List ℤ → List ℤ → List Particle → Answer (Unit {0})
+answerFrom first nx ny ux uy ps = moveChecks nx ny (gathered nx ny ux uy) first ps (result tt)
 
--- ---- what `gather_all` asks and promises
+-- and for all of them
+abbrev pub gatherAnswer : ℕ → ℕ → List ℤ → List ℤ → List Particle → Answer (Unit {0})
+gatherAnswer nx ny ux uy ps = answerFrom 0 nx ny ux uy ps
+
+-- ---- what `gather_from` and `gather_all` ask and promise
 
 abbrev pub toldGathered : Gathered → Answer (Unit {0})
 toldGathered Done = result tt
@@ -82,6 +86,9 @@ pub record Gatherable (nx ny : ℕ) (source : List ℤ) (weights : List (List �
   pub room : length target ≡ length source
 
 -- where it is refused, the target is the caller's scratch and holds anything of its length
-pub record Gathers (nx ny : ℕ) (source ux uy target : List ℤ) (r : Gathered) : Type 0 where
-  pub answer : toldGathered r ≡ gatherAnswer nx ny ux uy (particlesOf source)
+pub record GathersFrom (first nx ny : ℕ) (source ux uy target : List ℤ) (r : Gathered) : Type 0 where
+  pub answer : toldGathered r ≡ answerFrom first nx ny ux uy (particlesOf source)
   pub particles : toldGathered r ≡ result tt → target ≡ unpacked (map (gathered nx ny ux uy) (particlesOf source))
+
+abbrev pub Gathers : ℕ → ℕ → List ℤ → List ℤ → List ℤ → List ℤ → Gathered → Type 0
+Gathers nx ny source ux uy target r = GathersFrom 0 nx ny source ux uy target r

@@ -36,10 +36,10 @@ pub record Settling (k nx ny : ℕ) (x y : ℤ) (a b : AffineVelocity) (target :
   pub vx-size : Bound (a .v) 524288
   pub vy-size : Bound (b .v) 524288
 
--- (x, y) is the new place
-pub record Settled (k nx ny : ℕ) (identifier mass x y : ℤ) (a b : AffineVelocity) (target target′ : List ℤ) (r : Gathered) : Type 0 where
+-- (x, y) is the new place of the record with this index
+pub record Settled (index k nx ny : ℕ) (identifier mass x y : ℤ) (a b : AffineVelocity) (target target′ : List ℤ) (r : Gathered) : Type 0 where
   pub stored : target′ ≡ particleStored target (10 * k) identifier mass x y a b
-  pub answer : toldGathered r ≡ checkOf k nx ny x y a b
+  pub answer : toldGathered r ≡ checkOf index nx ny x y a b
 
 -- a particle's velocity on the x axis and on the y axis
 abbrev pub alongXOf : Particle → AffineVelocity
@@ -48,7 +48,7 @@ alongXOf p = record { v = p .vx; bx = p .bxx; by = p .bxy }
 abbrev pub alongYOf : Particle → AffineVelocity
 alongYOf p = record { v = p .vy; bx = p .byx; by = p .byy }
 
--- record k is p before its move and q after it
-pub record MovesOne (nx ny k : ℕ) (p q : Particle) (target target′ : List ℤ) (r : Gathered) : Type 0 where
+-- the record with this index, which stands at place k, is p before its move and q after it
+pub record MovesOne (nx ny index k : ℕ) (p q : Particle) (target target′ : List ℤ) (r : Gathered) : Type 0 where
   pub stored : target′ ≡ particleStored target (10 * k) (pos (p .identifier)) (pos (p .mass)) (newCoordinate alongX p (q .vx)) (newCoordinate alongY p (q .vy)) (alongXOf q) (alongYOf q)
-  pub answer : toldGathered r ≡ moveCheck nx ny p q k (result tt)
+  pub answer : toldGathered r ≡ moveCheck nx ny p q index (result tt)

@@ -9,7 +9,7 @@ ghost use Rattle.arith.specs.Size.{Bound};
 ghost use Rattle.refusal.specs.Refused.{result};
 ghost use Rattle.apic.specs.Limits.{SizeLimits};
 ghost use Rattle.unpacked.specs.Unpacked.{particlesOf, particleAt};
-ghost use Rattle.gather_core.specs.Gather.{beyond, offAxis, firstOf, toldGathered, gathered, Gatherable, Gathers};
+ghost use Rattle.gather_core.specs.Gather.{beyond, offAxis, firstOf, toldGathered, gathered, Gatherable, GathersFrom, Gathers};
 ghost use Rattle.gather_core.specs.Parts.{checkOf, fiveStored, particleStored, Settling, Settled, MovesOne};
 use gather_point::AffineVelocity;
 use refusal::Refusal;
@@ -163,8 +163,9 @@ fn gain(x: i64, v: i64) -> i64
     x + v
 }
 
-// Moves record k from (x, y), stores it in `to` and checks it.
+// Moves the record with this index from (x, y), stores it at place k of `to` and checks it. `move_one` calls it.
 fn settle(
+    index: usize,
     k: usize,
     nx: usize,
     ny: usize,
@@ -177,16 +178,18 @@ fn settle(
     to: &mut [i64],
 ) -> Gathered
     requires { ⌜ Settling k nx ny x y a b (now to) ⌝ }
-    ensures { λ r. ⌜ Settled k nx ny identifier mass (x +ℤ a .v) (y +ℤ b .v) a b (now (to .entry)) (now (to .exit)) r ⌝ }
+    ensures { λ r. ⌜ Settled index k nx ny identifier mass (x +ℤ a .v) (y +ℤ b .v) a b (now (to .entry)) (now (to .exit)) r ⌝ }
 {
     let new_x = gain(x, a.v);
     let new_y = gain(y, b.v);
     store_particle(to, 10 * k, identifier, mass, new_x, new_y, a, b);
-    check(k, nx, ny, new_x, new_y, a, b)
+    check(index, nx, ny, new_x, new_y, a, b)
 }
 
-// Moves particle k of `from` into `to`, which takes its numbers even where it is refused.
+// Moves particle k of `from`, the first of which is record `first`, into `to`, which takes its numbers even where it is refused.
+// `gather_from` calls it.
 fn move_one(
+    first: usize,
     from: &[i64],
     k: usize,
     nx: usize,
@@ -196,14 +199,15 @@ fn move_one(
     uy: &[i64],
     to: &mut [i64],
 ) -> Gathered
-    requires { ⌜ Gatherable nx ny (now from) (now table) (now ux) (now uy) (now to) × (k < length (particlesOf (now from))) ⌝ }
-    ensures { λ r. ⌜ MovesOne nx ny k (particleAt (now (from .entry)) k) (gathered nx ny (now (ux .entry)) (now (uy .entry)) (particleAt (now (from .entry)) k)) (now (to .entry)) (now (to .exit)) r ⌝ }
+    requires { ⌜ Gatherable nx ny (now from) (now table) (now ux) (now uy) (now to) × (first ≤ 4096) × (k < length (particlesOf (now from))) ⌝ }
+    ensures { λ r. ⌜ MovesOne nx ny (first + k) k (particleAt (now (from .entry)) k) (gathered nx ny (now (ux .entry)) (now (uy .entry)) (particleAt (now (from .entry)) k)) (now (to .entry)) (now (to .exit)) r ⌝ }
 {
     let at = 10 * k;
     let x = coordinate(from, at + 2);
     let y = coordinate(from, at + 3);
     let m = gather_point::gather_at(x, y, nx, table, ux, uy);
     settle(
+        first + k,
         k,
         nx,
         ny,
@@ -217,7 +221,34 @@ fn move_one(
     )
 }
 
-// Moves every particle of `from` into `to`. `gather` of crate transfer and the step call it.
+// Moves every particle of `from`, the first of which is record `first`, into `to`. `gather_all` and the gather of crate
+// transfer call it.
+pub fn gather_from(
+    first: usize,
+    from: &[i64],
+    nx: usize,
+    ny: usize,
+    table: &[[u16; 3]; 64],
+    ux: &[i64],
+    uy: &[i64],
+    to: &mut [i64],
+) -> Gathered
+    requires { ⌜ Gatherable nx ny (now from) (now table) (now ux) (now uy) (now to) × (first ≤ 4096) ⌝ }
+    ensures { λ r. ⌜ GathersFrom first nx ny (now (from .entry)) (now (ux .entry)) (now (uy .entry)) (now (to .exit)) r ⌝ }
+{
+    let count = from.len() / 10;
+    let mut k = 0;
+    while k < count {
+        match move_one(first, from, k, nx, ny, table, ux, uy, to) {
+            Gathered::Done => {}
+            Gathered::Refused(refusal) => return Gathered::Refused(refusal),
+        }
+        k += 1;
+    }
+    Gathered::Done
+}
+
+// Moves every particle of `from` into `to`. The step calls it.
 pub fn gather_all(
     from: &[i64],
     nx: usize,
@@ -230,14 +261,5 @@ pub fn gather_all(
     requires { ⌜ Gatherable nx ny (now from) (now table) (now ux) (now uy) (now to) ⌝ }
     ensures { λ r. ⌜ Gathers nx ny (now (from .entry)) (now (ux .entry)) (now (uy .entry)) (now (to .exit)) r ⌝ }
 {
-    let count = from.len() / 10;
-    let mut k = 0;
-    while k < count {
-        match move_one(from, k, nx, ny, table, ux, uy, to) {
-            Gathered::Done => {}
-            Gathered::Refused(refusal) => return Gathered::Refused(refusal),
-        }
-        k += 1;
-    }
-    Gathered::Done
+    gather_from(0, from, nx, ny, table, ux, uy, to)
 }

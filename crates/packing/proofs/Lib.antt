@@ -1,3 +1,3 @@
 pub mod Filling
+pub mod Parts
 pub mod Sets
-pub mod Widths

@@ -5,21 +5,13 @@ use mathlib.Core.List.{List, _++_}
 use Prim.Native.Nat.{ℕ, _+_, _*_, _≤_, _<_}
 use lib.ListN.{length, getD, take, drop}
 use lib.IntN.{ℤ, pos, natAbs}
-use Rattle.refusal.specs.Refused.{result}
-use Rattle.particle.specs.Record.{readAnswer}
 use Rattle.particle.proofs.Valid.{Valid}
-use Rattle.particles.specs.Set.{recordAt, particleIn}
 use Rattle.unpacked.specs.Unpacked.{particleAt}
 use Rattle.unpacked.proofs.Laws.{NumbersAt}
 
 -- a list of parts of n elements each, with another part at place k
 abbrev pub placed : {A : Type 0} → ℕ → List A → ℕ → List A → List A
 placed n l k part = take (n * k) l ++ part ++ drop (n * k + n) l
-
--- the record with index k is there, and is not refused
-pub record RecordAt (bytes : List ℕ) (k : ℕ) : Type 0 where
-  pub inside : 14 * k + 14 ≤ length bytes
-  pub read : readAnswer k (recordAt 0 bytes k) ≡ result (particleIn bytes k)
 
 -- the numbers of the particle with index k are there, and a record can hold it
 pub record ParticleAt (l : List ℤ) (k : ℕ) : Type 0 where

@@ -1,7 +1,6 @@
 // A particle set's records as one array of numbers, ten for each particle, and back.
 use particle::Particle;
 use particle::RECORD_LENGTH;
-use particle::Read;
 ghost use mathlib.Core.Path.{_≡_};
 ghost use Prim.Native.Nat.{_+_, _*_, _/_, _≤_};
 ghost use lib.ListN.{length, getD};
@@ -9,8 +8,8 @@ ghost use lib.IntN.{pos, natAbs};
 ghost use Rattle.particle.specs.Record.{recordOf};
 ghost use Rattle.particles.specs.Set.{recordCount, recordsOf, particleIn, particlesIn};
 ghost use Rattle.unpacked.specs.Unpacked.{numbers, unpacked, particleAt, particlesOf};
-ghost use Rattle.packing.specs.Packing.{Accepted, Packable};
-ghost use Rattle.packing.specs.Internal.{placed, RecordAt, ParticleAt, Unsigned16, Signed16};
+ghost use Rattle.packing.specs.Packing.{Packable};
+ghost use Rattle.packing.specs.Internal.{placed, ParticleAt, Unsigned16, Signed16};
 
 // How many numbers a particle has in an array.
 pub const NUMBERS: usize = 10;
@@ -55,22 +54,18 @@ fn put_particle(p: Particle, k: usize, array: &mut [i64])
     store(&ten, &mut array[at..at + NUMBERS]);
 }
 
-// One turn of `unpack_set`: the part that is the record goes to the record reader, and its answer is taken apart.
+// One turn of `unpack_set`: the particle in the part that is the record.
 fn unpack_record(records: &[u8], k: usize, array: &mut [i64])
-    requires { ⌜ RecordAt (now records) k × (10 * k + 10 ≤ length (now array)) ⌝ }
+    requires { ⌜ (14 * k + 14 ≤ length (now records)) × (10 * k + 10 ≤ length (now array)) ⌝ }
     ensures { λ _. ⌜ now (array .exit) ≡ placed 10 (now (array .entry)) k (numbers (particleIn (now (records .entry)) k)) ⌝ }
 {
     let at = RECORD_LENGTH * k;
-    match particle::read_at(&records[at..at + RECORD_LENGTH], k) {
-        Read::Found(p) => put_particle(p, k, array),
-        // No record of an accepted set is refused.
-        Read::Refused(_) => {}
-    }
+    put_particle(particle::unpack(&records[at..at + RECORD_LENGTH]), k, array);
 }
 
-// Unpacks every record. `scatter`, `gather`, `step` and `run` call it with a set that was accepted.
+// Unpacks every record. `scatter`, `gather`, `step` and `run` call it with an array of as many numbers as the records have.
 pub fn unpack_set(records: &[u8], array: &mut [i64])
-    requires { ⌜ Accepted (now records) × (length (now array) ≡ 10 * recordCount (now records)) ⌝ }
+    requires { ⌜ length (now array) ≡ 10 * recordCount (now records) ⌝ }
     ensures { λ _. ⌜ now (array .exit) ≡ unpacked (particlesIn (now (records .entry))) ⌝ }
 {
     let count = records.len() / RECORD_LENGTH;
@@ -122,7 +117,7 @@ fn pack_particle(array: &[i64], k: usize, records: &mut [u8])
 {
     let at = RECORD_LENGTH * k;
     let p = particle_at(array, k);
-    particle::write_record(p, &mut records[at..at + RECORD_LENGTH]);
+    particle::pack(p, &mut records[at..at + RECORD_LENGTH]);
 }
 
 // Packs every particle. `gather`, `step` and `run` call it with the particles of a set.

@@ -2,13 +2,13 @@
 --     Bytes         14 bytes, and the number that they make
 --     part-..       one law for each field, in the layout's order
 -- Assumes nothing.
-use Prim.Native.Nat.{ℕ, zero, suc, _/_, _%_, _^_, _<_}
+use Prim.Native.Nat.{ℕ, zero, suc, _+_, _*_, _/_, _%_, _^_, _<_}
 use native.Mathlib.Omega.{arith}
 use mathlib.Core.Path.{_≡_, refl, ap, _∙_}
 use mathlib.Core.List.{List, [], _∷_}
 use lib.ListN.{length, getD}
 use Rattle.particle.specs.Bits.{join}
-use Rattle.particle.specs.Internal.{window}
+use Rattle.particle.specs.Internal.{pair}
 use Rattle.particle.specs.Layout.{byteWidths, recordLength}
 
 -- the list of f 0, f 1, .. of length n
@@ -60,32 +60,32 @@ bytes l e small =
       b13 = small 13;
     }
 
-pub part-identifier : (l : List ℕ) → Bytes l → window l 0 / 256 % 65536 ≡ join byteWidths l / 2 ^ 96 % 2 ^ 16
+pub part-identifier : (l : List ℕ) → Bytes l → pair l 0 ≡ join byteWidths l / 2 ^ 96 % 2 ^ 16
 part-identifier l b = omega arith
 
-pub part-mass : (l : List ℕ) → Bytes l → window l 2 / 16384 % 1024 ≡ join byteWidths l / 2 ^ 86 % 2 ^ 10
+pub part-mass : (l : List ℕ) → Bytes l → pair l 2 / 64 ≡ join byteWidths l / 2 ^ 86 % 2 ^ 10
 part-mass l b = omega arith
 
-pub part-x : (l : List ℕ) → Bytes l → window l 3 / 1024 % 4096 ≡ join byteWidths l / 2 ^ 74 % 2 ^ 12
+pub part-x : (l : List ℕ) → Bytes l → pair l 2 % 64 * 64 + pair l 4 / 1024 ≡ join byteWidths l / 2 ^ 74 % 2 ^ 12
 part-x l b = omega arith
 
-pub part-y : (l : List ℕ) → Bytes l → window l 4 / 64 % 4096 ≡ join byteWidths l / 2 ^ 62 % 2 ^ 12
+pub part-y : (l : List ℕ) → Bytes l → pair l 4 % 1024 * 4 + pair l 6 / 16384 ≡ join byteWidths l / 2 ^ 62 % 2 ^ 12
 part-y l b = omega arith
 
-pub part-vx : (l : List ℕ) → Bytes l → window l 6 / 32768 % 128 ≡ join byteWidths l / 2 ^ 55 % 2 ^ 7
+pub part-vx : (l : List ℕ) → Bytes l → pair l 6 / 128 % 128 ≡ join byteWidths l / 2 ^ 55 % 2 ^ 7
 part-vx l b = omega arith
 
-pub part-vy : (l : List ℕ) → Bytes l → window l 7 / 65536 % 128 ≡ join byteWidths l / 2 ^ 48 % 2 ^ 7
+pub part-vy : (l : List ℕ) → Bytes l → pair l 6 % 128 ≡ join byteWidths l / 2 ^ 48 % 2 ^ 7
 part-vy l b = omega arith
 
-pub part-Bxx : (l : List ℕ) → Bytes l → window l 8 / 4096 % 4096 ≡ join byteWidths l / 2 ^ 36 % 2 ^ 12
+pub part-Bxx : (l : List ℕ) → Bytes l → pair l 8 / 16 % 4096 ≡ join byteWidths l / 2 ^ 36 % 2 ^ 12
 part-Bxx l b = omega arith
 
-pub part-Bxy : (l : List ℕ) → Bytes l → window l 9 / 256 % 4096 ≡ join byteWidths l / 2 ^ 24 % 2 ^ 12
+pub part-Bxy : (l : List ℕ) → Bytes l → (pair l 8 % 16 * 256 + pair l 10 / 256) % 4096 ≡ join byteWidths l / 2 ^ 24 % 2 ^ 12
 part-Bxy l b = omega arith
 
-pub part-Byx : (l : List ℕ) → Bytes l → window l 11 / 4096 % 4096 ≡ join byteWidths l / 2 ^ 12 % 2 ^ 12
+pub part-Byx : (l : List ℕ) → Bytes l → (pair l 10 % 256 * 16 + pair l 12 / 4096) % 4096 ≡ join byteWidths l / 2 ^ 12 % 2 ^ 12
 part-Byx l b = omega arith
 
-pub part-Byy : (l : List ℕ) → Bytes l → window l 11 / 1 % 4096 ≡ join byteWidths l / 2 ^ 0 % 2 ^ 12
+pub part-Byy : (l : List ℕ) → Bytes l → pair l 12 % 4096 ≡ join byteWidths l / 2 ^ 0 % 2 ^ 12
 part-Byy l b = omega arith

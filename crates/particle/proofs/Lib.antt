@@ -4,6 +4,8 @@ pub mod Fields
 pub mod Flags
 pub mod Parts
 pub mod RoundTrip
+pub mod Shifts
 pub mod Signed
+pub mod Stores
 pub mod Valid
 pub mod Writing

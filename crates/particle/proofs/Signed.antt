@@ -1,18 +1,18 @@
 -- Two's complement: a signed number and its bits, the difference of two naturals below zero, and a part of a record read as an integer.
 -- Assumes nothing.
-use Prim.Native.Nat.{ℕ, zero, suc, _+_, _-_, _^_, _<_, _≤_, zero-le}
-use native.Mathlib.Nat.{le-refl}
+use Prim.Native.Nat.{ℕ, zero, suc, _+_, _-_, _%_, _^_, _<_, _≤_}
+use native.Mathlib.Nat.{le-refl, add-mod-right, mod-eq-of-lt}
 use native.Mathlib.Omega.{arith}
 use native.Mathlib.Decide.{decLt}
 use mathlib.Core.Logic.{_⊎_, inl, inr, ⊎-elim}
-use mathlib.Core.Path.{_≡_, refl, sym, subst, ap, _∙_}
-use mathlib.Core.Bool.{true, false}
+use mathlib.Core.Path.{_≡_, refl, ap, _∙_}
+use mathlib.Core.Bool.{false}
 use borrow.Author.Tests.{lt-ltb, le-ltb, le-leb, lt-leb, leb-false}
 use mir.Syntax.{w16}
 use mir.Val.{toZ, ofZ}
 use mir.Facts.{toZ-ofZ}
 use lib.Dec.{T, leb}
-use lib.Signed.{mag, ltZ}
+use lib.Signed.{mag}
 use lib.IntN.{ℤ, pos, negsuc, negℤ, natAbs, _+ℤ_, _-ℤ_}
 use Rattle.particle.specs.Bits.{twosComplement, residue}
 use Rattle.particle.specs.Record.{isℤ}
@@ -43,14 +43,22 @@ pub residue-lt : (span : ℕ) (z : ℤ) → mag z < span → residue span z < sp
 residue-lt span (pos n) h = h
 residue-lt span (negsuc n) h = omega arith
 
--- below zero the span is added
-pub residue-negative : (span : ℕ) (z : ℤ) → mag z < span → ltZ z (pos 0) ≡ true → z +ℤ pos span ≡ pos (residue span z)
-residue-negative span (pos n) h t = absurd (subst T (sym t ∙ le-ltb n 0 zero-le) tt)
-residue-negative span (negsuc n) h t = simp (le-ltb span (suc n) h)
+-- with the span added a number is not below zero, and its residue is left by a division
+abbrev pub raised : ℕ → ℤ → ℕ
+raised span (pos n) = n + span
+raised span (negsuc n) = span - suc n
 
-pub residue-positive : (span : ℕ) (z : ℤ) → ltZ z (pos 0) ≡ false → z ≡ pos (residue span z)
-residue-positive span (pos n) t = refl
-residue-positive span (negsuc n) t = absurd (subst T t tt)
+pub raised-is : (span : ℕ) (z : ℤ) → mag z < span → z +ℤ pos span ≡ pos (raised span z)
+raised-is span (pos n) h = refl
+raised-is span (negsuc n) h = simp (le-ltb span (suc n) h)
+
+pub raised-lt : (span : ℕ) (z : ℤ) → mag z < span → raised span z < span + span
+raised-lt span (pos n) h = omega arith
+raised-lt span (negsuc n) h = omega arith
+
+pub raised-mod : (span : ℕ) (z : ℤ) → mag z < span → raised span z % span ≡ residue span z
+raised-mod span (pos n) h = add-mod-right n span ∙ mod-eq-of-lt h
+raised-mod span (negsuc n) h = mod-eq-of-lt (residue-lt span (negsuc n) h)
 
 -- ---- two's complement and back
 
@@ -61,7 +69,7 @@ decoded-residue half (negsuc n) h =
     upper-half half d (omega arith) (omega arith) ∙ ap negsuc (omega arith)
 
 -- a part in the lower or in the upper half
-halves : (half d : ℕ) → (d < half) ⊎ (half ≤ d)
+pub halves : (half d : ℕ) → (d < half) ⊎ (half ≤ d)
 halves half d = elim (decLt d half) [ yes h ↦ inl h | no h ↦ inr (omega arith) ]
 
 pub residue-decoded : (half d : ℕ) → d < half + half → residue (half + half) (twosComplement half d) ≡ d

@@ -8,6 +8,10 @@ use lib.ListN.{getD}
 abbrev pub window : List ℕ → ℕ → ℕ
 window bytes at = getD bytes at 0 * 65536 + getD bytes (at + 1) 0 * 256 + getD bytes (at + 2) 0
 
+-- two bytes from a place on, as one number
+abbrev pub pair : List ℕ → ℕ → ℕ
+pair bytes at = getD bytes at 0 * 256 + getD bytes (at + 1) 0
+
 -- as many parts as widths, each of at most its width in bits
 abbrev pub Below : List ℕ → List ℕ → Type 0
 Below [] [] = Unit

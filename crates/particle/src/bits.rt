@@ -1,10 +1,10 @@
 // Parts of a run of bytes, by division with powers of two.
 ghost use mathlib.Core.Path.{_≡_};
-ghost use Prim.Native.Nat.{_+_, _*_, _/_, _%_, _≤_, _<_};
+ghost use Prim.Native.Nat.{_+_, _-_, _*_, _/_, _%_, _^_, _≤_, _<_};
 ghost use lib.ListN.{length};
 ghost use lib.Signed.{mag};
 ghost use Rattle.particle.specs.Bits.{twosComplement, residue};
-ghost use Rattle.particle.specs.Internal.{window};
+ghost use Rattle.particle.specs.Internal.{window, pair};
 
 fn wide(byte: u8) -> u32
     ensures { λ r. ⌜ (r ≡ byte) × (r < 256) ⌝ }
@@ -41,16 +41,30 @@ pub fn signed(bytes: &[u8], at: usize, drop: u32, half: u16) -> i16
     twos_complement(unsigned(bytes, at, drop, (half + half) as u32), half)
 }
 
+// Two bytes from `at` on, as one number. Whoever reads a record calls it with a place in it.
+pub fn pair(bytes: &[u8], at: usize) -> u16
+    requires { ⌜ at + 2 ≤ length (now bytes) ⌝ }
+    ensures { λ r. ⌜ r ≡ pair (now (bytes .entry)) at ⌝ }
+{
+    bytes[at] as u16 * 256 + bytes[at + 1] as u16
+}
+
+// The low bits of a number, `width` of them, read in two's complement: the sign is moved to the top and back. Whoever reads a
+// record calls it with a field's width.
+pub fn signed_low(part: u16, width: u32) -> i16
+    requires { ⌜ (1 ≤ width) × (width ≤ 16) ⌝ }
+    ensures { λ r. ⌜ r ≡ twosComplement (2 ^ (width - 1)) (part % 2 ^ width) ⌝ }
+{
+    let up = 32 - width;
+    ((part as i32) << up >> up) as i16
+}
+
 // The number below `span` that stands for a signed one in two's complement.
 pub fn residue(value: i16, span: u16) -> u16
     requires { ⌜ (mag value < span) × (span ≤ 16384) ⌝ }
     ensures { λ r. ⌜ (r ≡ residue span value) × (r < span) ⌝ }
 {
-    if value < 0 {
-        (value + span as i16) as u16
-    } else {
-        value as u16
-    }
+    (value + span as i16) as u16 % span
 }
 
 // A byte: the low bits of `high`, moved up by a product with `scale`, and then what a division by `drop` leaves of `low`.

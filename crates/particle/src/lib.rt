@@ -38,27 +38,35 @@ pub enum Written {
     Refused(Refusal),
 }
 
-// The particle that a record of the right length holds, valid or not. `read_at` calls it, and whoever prints a record.
+// The particle that a record of the right length holds, valid or not: seven pairs of bytes, and the fields from them. Whoever
+// reads a record of that length calls it.
 pub fn unpack(bytes: &[u8]) -> Particle
     requires { ⌜ length (now bytes) ≡ recordLength ⌝ }
     ensures { λ r. ⌜ r ≡ particleOf (now (bytes .entry)) ⌝ }
 {
+    let a = bits::pair(bytes, 0);
+    let b = bits::pair(bytes, 2);
+    let c = bits::pair(bytes, 4);
+    let d = bits::pair(bytes, 6);
+    let e = bits::pair(bytes, 8);
+    let f = bits::pair(bytes, 10);
+    let g = bits::pair(bytes, 12);
     Particle {
-        identifier: bits::unsigned(bytes, 0, 256, 65536),
-        mass: bits::unsigned(bytes, 2, 16384, 1024),
-        x: bits::unsigned(bytes, 3, 1024, 4096),
-        y: bits::unsigned(bytes, 4, 64, 4096),
-        vx: bits::signed(bytes, 6, 32768, 64),
-        vy: bits::signed(bytes, 7, 65536, 64),
-        bxx: bits::signed(bytes, 8, 4096, 2048),
-        bxy: bits::signed(bytes, 9, 256, 2048),
-        byx: bits::signed(bytes, 11, 4096, 2048),
-        byy: bits::signed(bytes, 11, 1, 2048),
+        identifier: a,
+        mass: b / 64,
+        x: b % 64 * 64 + c / 1024,
+        y: c % 1024 * 4 + d / 16384,
+        vx: bits::signed_low(d / 128, 7),
+        vy: bits::signed_low(d, 7),
+        bxx: bits::signed_low(e / 16, 12),
+        bxy: bits::signed_low(e % 16 * 256 + f / 256, 12),
+        byx: bits::signed_low(f % 256 * 16 + g / 4096, 12),
+        byy: bits::signed_low(g, 12),
     }
 }
 
-// The answer for a particle that was read from the record with this index.
-fn accept(p: Particle, index: usize) -> Read
+// The answer for a particle that was read from the record with this index. The walk over a set calls it too.
+pub fn accept(p: Particle, index: usize) -> Read
     ensures { λ r. ⌜ toldRead r ≡ readParticle index p ⌝ }
 {
     if p.mass == limits::NO_MASS {
@@ -76,21 +84,14 @@ fn accept(p: Particle, index: usize) -> Read
     Read::Found(p)
 }
 
-// Read a record: any slice. A refusal of the particle's values names the record with this index of its set.
-pub fn read_at(bytes: &[u8], index: usize) -> Read
-    ensures { λ r. ⌜ toldRead r ≡ readAnswer index (now (bytes .entry)) ⌝ }
+// Read a record: any slice.
+pub fn read_record(bytes: &[u8]) -> Read
+    ensures { λ r. ⌜ toldRead r ≡ readAnswer 0 (now (bytes .entry)) ⌝ }
 {
     if bytes.len() != RECORD_LENGTH {
         return Read::Refused(Refusal::Length);
     }
-    accept(unpack(bytes), index)
-}
-
-// Read a record by itself.
-pub fn read_record(bytes: &[u8]) -> Read
-    ensures { λ r. ⌜ toldRead r ≡ readAnswer 0 (now (bytes .entry)) ⌝ }
-{
-    read_at(bytes, 0)
+    accept(unpack(bytes), 0)
 }
 
 // The answer for a particle that is to be written.
@@ -115,8 +116,8 @@ fn allow(p: Particle) -> Written
     Written::Done
 }
 
-// The bytes of a record with these parts in its fields. `pack` calls it with parts that the fields hold.
-fn bytes_of(
+// Writes the record with these parts in its fields. `pack` calls it with parts that the fields hold.
+fn put(
     identifier: u16,
     mass: u16,
     x: u16,
@@ -127,43 +128,28 @@ fn bytes_of(
     bxy: u16,
     byx: u16,
     byy: u16,
-) -> [u8; RECORD_LENGTH]
-    requires { ⌜ Below (widths layout) (identifier ∷ mass ∷ x ∷ y ∷ vx ∷ vy ∷ bxx ∷ bxy ∷ byx ∷ byy ∷ []) ⌝ }
-    ensures { λ r. ⌜ r ≡ cut byteWidths (join (widths layout) (identifier ∷ mass ∷ x ∷ y ∷ vx ∷ vy ∷ bxx ∷ bxy ∷ byx ∷ byy ∷ [])) ⌝ }
+    bytes: &mut [u8],
+)
+    requires { ⌜ Below (widths layout) (identifier ∷ mass ∷ x ∷ y ∷ vx ∷ vy ∷ bxx ∷ bxy ∷ byx ∷ byy ∷ []) × (length (now bytes) ≡ recordLength) ⌝ }
+    ensures { λ _. ⌜ now (bytes .exit) ≡ cut byteWidths (join (widths layout) (identifier ∷ mass ∷ x ∷ y ∷ vx ∷ vy ∷ bxx ∷ bxy ∷ byx ∷ byy ∷ [])) ⌝ }
 {
-    [
-        bits::byte(0, 1, identifier, 256),
-        bits::byte(0, 1, identifier, 1),
-        bits::byte(0, 1, mass, 4),
-        bits::byte(mass, 64, x, 64),
-        bits::byte(x, 4, y, 1024),
-        bits::byte(0, 1, y, 4),
-        bits::byte(y, 64, vx, 2),
-        bits::byte(vx, 128, vy, 1),
-        bits::byte(0, 1, bxx, 16),
-        bits::byte(bxx, 16, bxy, 256),
-        bits::byte(0, 1, bxy, 1),
-        bits::byte(0, 1, byx, 16),
-        bits::byte(byx, 16, byy, 256),
-        bits::byte(0, 1, byy, 1),
-    ]
+    bytes[0] = bits::byte(0, 1, identifier, 256);
+    bytes[1] = bits::byte(0, 1, identifier, 1);
+    bytes[2] = bits::byte(0, 1, mass, 4);
+    bytes[3] = bits::byte(mass, 64, x, 64);
+    bytes[4] = bits::byte(x, 4, y, 1024);
+    bytes[5] = bits::byte(0, 1, y, 4);
+    bytes[6] = bits::byte(y, 64, vx, 2);
+    bytes[7] = bits::byte(vx, 128, vy, 1);
+    bytes[8] = bits::byte(0, 1, bxx, 16);
+    bytes[9] = bits::byte(bxx, 16, bxy, 256);
+    bytes[10] = bits::byte(0, 1, bxy, 1);
+    bytes[11] = bits::byte(0, 1, byx, 16);
+    bytes[12] = bits::byte(byx, 16, byy, 256);
+    bytes[13] = bits::byte(0, 1, byy, 1);
 }
 
-// The record that holds a particle. `write_record` calls it with a particle that it accepts.
-fn pack(p: Particle) -> [u8; RECORD_LENGTH]
-    requires { ⌜ writeParticle p ≡ result tt ⌝ }
-    ensures { λ r. ⌜ r ≡ recordOf p ⌝ }
-{
-    let vx = bits::residue(p.vx, 128);
-    let vy = bits::residue(p.vy, 128);
-    let bxx = bits::residue(p.bxx, 4096);
-    let bxy = bits::residue(p.bxy, 4096);
-    let byx = bits::residue(p.byx, 4096);
-    let byy = bits::residue(p.byy, 4096);
-    bytes_of(p.identifier, p.mass, p.x, p.y, vx, vy, bxx, bxy, byx, byy)
-}
-
-// Copies bytes into a buffer of their number. Whoever writes a record or a header calls it.
+// Copies bytes into a buffer of their number. Whoever has the bytes at hand calls it.
 pub fn store(source: &[u8], bytes: &mut [u8])
     requires { ⌜ length (now source) ≡ length (now bytes) ⌝ }
     ensures { λ _. ⌜ now (bytes .exit) ≡ now (source .entry) ⌝ }
@@ -173,6 +159,33 @@ pub fn store(source: &[u8], bytes: &mut [u8])
         bytes[i] = source[i];
         i += 1;
     }
+}
+
+// Writes the record that holds a particle. `write_record` calls it with a particle that it accepts, and so does whoever packs
+// a set.
+pub fn pack(p: Particle, bytes: &mut [u8])
+    requires { ⌜ (writeParticle p ≡ result tt) × (length (now bytes) ≡ recordLength) ⌝ }
+    ensures { λ _. ⌜ now (bytes .exit) ≡ recordOf p ⌝ }
+{
+    let vx = bits::residue(p.vx, 128);
+    let vy = bits::residue(p.vy, 128);
+    let bxx = bits::residue(p.bxx, 4096);
+    let bxy = bits::residue(p.bxy, 4096);
+    let byx = bits::residue(p.byx, 4096);
+    let byy = bits::residue(p.byy, 4096);
+    put(
+        p.identifier,
+        p.mass,
+        p.x,
+        p.y,
+        vx,
+        vy,
+        bxx,
+        bxy,
+        byx,
+        byy,
+        bytes,
+    );
 }
 
 // Write a record: any numbers, any buffer. A refused call leaves the buffer as it was.
@@ -187,8 +200,7 @@ pub fn write_record(p: Particle, bytes: &mut [u8]) -> Written
     match answer {
         Written::Refused(refusal) => Written::Refused(refusal),
         Written::Done => {
-            let packed = pack(p);
-            store(&packed, bytes);
+            pack(p, bytes);
             Written::Done
         }
     }

@@ -1,43 +1,71 @@
 -- The checks that a set decides of a record, one law for each way out, and the totals that stay small on the way.
 -- Assumes nothing.
-use mathlib.Core.Path.{_≡_, refl, sym, ap, ap₂, _∙_, subst}
-use mathlib.Core.Bool.{Bool, true, false, not}
-use Prim.Native.Nat.{ℕ, suc, _+_, _*_, _≤_, _<_, _^_}
+use mathlib.Core.Path.{_≡_, refl, sym, ap, _∙_}
+use mathlib.Core.Bool.{true, false}
+use Prim.Native.Nat.{ℕ, _+_, _*_, _≤_, _<_, _^_}
 use native.Mathlib.Omega.{arith}
-use native.Mathlib.Nat.{lt-of-le-of-lt}
 use lib.IntN.{ℤ, natAbs, _+ℤ_}
 use mir.Syntax.{w64}
-use mir.Val.{Fits, SFits, hbits}
+use mir.Val.{SFits}
 use borrow.Author.Tests.{lt-ltb, le-ltb}
-use Rattle.refusal.specs.Refused.{Answer, result, refused}
+use Rattle.refusal.specs.Refused.{Answer, result, refused, refusedBy, andThen}
+use Rattle.refusal.specs.declared.Refusal.{Refusal}
+use Rattle.refusal.proofs.Answers.{same-result, not-result, not-refused, same-refusal}
 use Rattle.spline.specs.Spline.{onAxis}
-use Rattle.arith.specs.Size.{Bound, bound-fits, bound-sum, natAbs-sum}
+use Rattle.arith.specs.Size.{bound-fits, natAbs-sum}
 use Rattle.particle.specs.declared.Particle.{Particle}
 use Rattle.particles.specs.declared.Totals.{Totals}
+use Rattle.particles.specs.declared.Entry.{Entry}
+use Rattle.particles.specs.declared.Entered.{Entered}
+use Rattle.particles.specs.declared.Entered.the-variants as entered
 use Rattle.particles.specs.declared.Progress.{Progress}
 use Rattle.particles.specs.Set.{admitted}
-use Rattle.particles.specs.Walk.{Small, SumFits, plus, share, advanced, nextAnswer}
+use Rattle.particles.specs.Walk.{followed, toldEntered, enterAnswer, Small, SumFits, plus, share, advanced, nextAnswer}
+use Rattle.particles.proofs.Checks.{admitted-facts}
+
+module _ (nx ny k : ℕ) (e : Entry) (p : Particle) where
+  pub off-x : onAxis nx (p .x) ≡ false → enterAnswer nx ny k e p ≡ refused 7 k
+  unfolding admitted
+  off-x x = rw x
+
+  pub off-y : onAxis nx (p .x) ≡ true → onAxis ny (p .y) ≡ false → enterAnswer nx ny k e p ≡ refused 7 k
+  unfolding admitted
+  off-y x y = rw (x, y)
+
+  pub not-above : onAxis nx (p .x) ≡ true → onAxis ny (p .y) ≡ true → p .identifier < e .least → enterAnswer nx ny k e p ≡ refused 8 k
+  unfolding admitted
+  not-above x y h = rw (x, y, lt-ltb (p .identifier) (e .least) h)
+
+  pub too-heavy : onAxis nx (p .x) ≡ true → onAxis ny (p .y) ≡ true → e .least ≤ p .identifier → 131072 < e .mass + p .mass → enterAnswer nx ny k e p ≡ refused 9 k
+  unfolding admitted
+  too-heavy x y h m = rw (x, y, le-ltb (p .identifier) (e .least) h, lt-ltb 131072 (e .mass + p .mass) m)
+
+  pub goes-on : onAxis nx (p .x) ≡ true → onAxis ny (p .y) ≡ true → e .least ≤ p .identifier → e .mass + p .mass ≤ 131072 → enterAnswer nx ny k e p ≡ result (followed e p)
+  unfolding admitted
+  goes-on x y h m = rw (x, y, le-ltb (p .identifier) (e .least) h, le-ltb 131072 (e .mass + p .mass) m)
+
+-- ---- the walk's answer by the check's
 
 module _ (nx ny k : ℕ) (s : Progress) (p : Particle) where
-  pub off-x : onAxis nx (p .x) ≡ false → nextAnswer nx ny k s p ≡ refused 7 k
-  unfolding admitted
-  off-x e = rw e
+  abbrev so-far : Entry
+  so-far = record { least = s .least; mass = s .totals .mass }
 
-  pub off-y : onAxis nx (p .x) ≡ true → onAxis ny (p .y) ≡ false → nextAnswer nx ny k s p ≡ refused 7 k
-  unfolding admitted
-  off-y e f = rw (e, f)
+  pub admits : (r : Entered) {e : Entry} {t : Totals} → toldEntered r ≡ enterAnswer nx ny k so-far p → r ≡ entered.Admitted e → t ≡ plus (s .totals) (share p) → result (record { least = e .least; totals = t }) ≡ nextAnswer nx ny k s p
+  admits r {e} {t} told is sums = go (admitted nx ny k (s .least) (s .totals .mass) p) refl (sym told ∙ ap toldEntered is)
+    where
+      go : (a : Answer Particle) → admitted nx ny k (s .least) (s .totals .mass) p ≡ a → andThen a (λ q. result (followed so-far q)) ≡ result e → result (record { least = e .least; totals = t }) ≡ andThen a (λ q. result (advanced s q))
+      go (result q) h g =
+          let same = admitted-facts nx ny k (s .least) (s .totals .mass) p h .0 in
+          let all : t ≡ plus (s .totals) (share q) = sums ∙ ap (λ x. plus (s .totals) (share x)) same in
+          λ i. result (record { least = sym (same-result g) i .least; totals = all i })
+      go (refused n j) h g = not-result g
 
-  pub not-above : onAxis nx (p .x) ≡ true → onAxis ny (p .y) ≡ true → p .identifier < s .least → nextAnswer nx ny k s p ≡ refused 8 k
-  unfolding admitted
-  not-above e f h = rw (e, f, lt-ltb (p .identifier) (s .least) h)
-
-  pub too-heavy : onAxis nx (p .x) ≡ true → onAxis ny (p .y) ≡ true → s .least ≤ p .identifier → 131072 < s .totals .mass + p .mass → nextAnswer nx ny k s p ≡ refused 9 k
-  unfolding admitted
-  too-heavy e f h m = rw (e, f, le-ltb (p .identifier) (s .least) h, lt-ltb 131072 (s .totals .mass + p .mass) m)
-
-  pub goes-on : onAxis nx (p .x) ≡ true → onAxis ny (p .y) ≡ true → s .least ≤ p .identifier → s .totals .mass + p .mass ≤ 131072 → nextAnswer nx ny k s p ≡ result (advanced s p)
-  unfolding admitted
-  goes-on e f h m = rw (e, f, le-ltb (p .identifier) (s .least) h, le-ltb 131072 (s .totals .mass + p .mass) m)
+  pub refuses : (r : Entered) (f : Refusal) → toldEntered r ≡ enterAnswer nx ny k so-far p → r ≡ entered.Refused f → refusedBy f ≡ nextAnswer nx ny k s p
+  refuses r f told is = go (admitted nx ny k (s .least) (s .totals .mass) p) (ap toldEntered (sym is) ∙ told)
+    where
+      go : (a : Answer Particle) → refusedBy {A = Entry} f ≡ andThen a (λ q. result (followed so-far q)) → refusedBy f ≡ andThen a (λ q. result (advanced s q))
+      go (result q) h = not-refused (sym h)
+      go (refused n j) h = same-refusal h
 
 -- ---- small totals
 

@@ -1,21 +1,22 @@
--- The checks as facts: of sizes and lengths, and of an accepted set, record by record. Assumes nothing.
-use mathlib.Core.Path.{_≡_, refl, sym, ap, _∙_, subst}
+-- The checks as facts: of sizes and lengths, of a record's length, and of an accepted set, record by record. Assumes nothing.
+use mathlib.Core.Path.{_≡_, sym, ap, _∙_, subst}
 use mathlib.Core.Bool.{Bool, true, false, not, _&&_}
-use mathlib.Core.List.{List, [], _∷_}
+use mathlib.Core.List.{List, _∷_}
 use Prim.Native.Nat.{ℕ, zero, suc, _+_, _*_, _/_, _%_, _≤_}
 use native.Mathlib.Omega.{arith}
 use lib.Dec.{T, leb, ltb, eqb, leb→le, eqb→eq}
-use lib.ListN.{length}
+use lib.ListN.{length, drop, length-drop}
+use lib.Seq.{length-take-le}
 use mir.Facts.{and-yes}
-use borrow.Author.Tests.{not-false, ltb-false}
-use Rattle.refusal.specs.Refused.{Answer, result, refused, refuseIf, andThen}
-use Rattle.refusal.proofs.Answers.{same-result, same-refusal, not-result, not-refused, passed, went-on}
+use borrow.Author.Tests.{eq-eqb, not-false, ltb-false}
+use Rattle.refusal.specs.Refused.{Answer, result, refused, andThen}
+use Rattle.refusal.proofs.Answers.{same-result, passed, went-on}
 use Rattle.particle.specs.declared.Particle.{Particle}
-use Rattle.particle.specs.Record.{readAnswer}
+use Rattle.particle.specs.Layout.{recordLength}
+use Rattle.particle.specs.Record.{particleOf, readParticle, readAnswer}
 use Rattle.spline.specs.Spline.{onAxis}
 use Rattle.apic.specs.Limits.{SizeLimits}
-use Rattle.particles.specs.declared.Totals.{Totals}
-use Rattle.particles.specs.Set.{validSize, validLength, recordAt, recordCount, onGrid, admitted, setFrom, setOf, setAnswer, checkAnswer, totalsAnswer, totalsOf}
+use Rattle.particles.specs.Set.{validSize, validLength, recordAt, recordCount, onGrid, admitted, setFrom, setOf, setAnswer}
 
 holds : {b : Bool} → b ≡ true → T b
 holds e = subst T (sym e) tt
@@ -43,6 +44,15 @@ length-limits n e =
   where
     facts : n % 14 ≡ 0 → n ≤ 57344 → LengthLimits n
     facts a b = record { count = omega arith; whole = omega arith }
+
+-- ---- a record that is there
+
+pub record-long : (start : ℕ) (bytes : List ℕ) (k : ℕ) → start + 14 * k + 14 ≤ length bytes → length (recordAt start bytes k) ≡ recordLength
+record-long start bytes k h = length-take-le 14 (drop (start + 14 * k) bytes) (rw (length-drop (start + 14 * k) bytes) (omega arith))
+
+pub read-long : (k : ℕ) (bytes : List ℕ) → length bytes ≡ recordLength → readAnswer k bytes ≡ readParticle k (particleOf bytes)
+unfolding readAnswer
+read-long k bytes h = rw (eq-eqb (length bytes) recordLength h)
 
 -- ---- an accepted set, record by record
 
@@ -104,11 +114,13 @@ counted nx ny start bytes (suc left) k least mass e =
 -- ---- the operations' answers
 
 module _ (nx ny : ℕ) (bytes : List ℕ) where
-  pub bad-size : validSize nx ny ≡ false → totalsAnswer nx ny bytes ≡ refused 2 0
-  bad-size e = rw e
+  -- what an operation makes of an accepted set does not count where the set is refused at entry
+  module _ {B : Type 0} (next : List Particle → Answer B) where
+    pub bad-size : validSize nx ny ≡ false → andThen (setAnswer nx ny bytes) next ≡ refused 2 0
+    bad-size e = rw e
 
-  pub bad-length : validSize nx ny ≡ true → validLength (length bytes) ≡ false → totalsAnswer nx ny bytes ≡ refused 1 0
-  bad-length e f = rw (e, f)
+    pub bad-length : validSize nx ny ≡ true → validLength (length bytes) ≡ false → andThen (setAnswer nx ny bytes) next ≡ refused 1 0
+    bad-length e f = rw (e, f)
 
   pub good-entry : validSize nx ny ≡ true → validLength (length bytes) ≡ true → setAnswer nx ny bytes ≡ setOf nx ny 0 bytes (recordCount bytes)
   good-entry e f = rw (e, f)
@@ -124,16 +136,3 @@ module _ (nx ny : ℕ) (bytes : List ℕ) where
       let a = passed (not (validSize nx ny)) 2 0 _ e in
       let b = passed (not (validLength (length bytes))) 1 0 _ (a .1) in
       record { size = not-false (validSize nx ny) (a .0); whole = not-false (validLength (length bytes)) (b .0); set = b .1 }
-
-  pub checked-sums : {t : Totals} → totalsAnswer nx ny bytes ≡ result t → checkAnswer nx ny bytes ≡ result (recordCount bytes)
-  checked-sums e =
-      let a = went-on (setAnswer nx ny bytes) (λ ps. result (totalsOf ps)) e in
-      ap (λ b. andThen b (λ ps. result (length ps))) (a .1)
-      ∙ ap result (counted nx ny 0 bytes (recordCount bytes) 0 0 0 (entered (a .1) .set))
-
-  pub checked-refused : {n k : ℕ} → totalsAnswer nx ny bytes ≡ refused n k → checkAnswer nx ny bytes ≡ refused n k
-  checked-refused e = go (setAnswer nx ny bytes) e
-    where
-      go : (a : Answer (List Particle)) {n k : ℕ} → andThen a (λ ps. result (totalsOf ps)) ≡ refused n k → andThen a (λ ps. result (length ps)) ≡ refused n k
-      go (result ps) e = not-refused e
-      go (refused n′ k′) e = same-refusal e

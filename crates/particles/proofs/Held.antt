@@ -1,15 +1,15 @@
--- A signed machine number of 64 bits that holds a small integer: what reads it back gets that integer.
--- Assumes nothing.
-use mathlib.Core.Path.{_≡_, sym, ap, ap₂, _∙_}
+-- The result r of a call on small numbers: read back, it is the integer v, within k. Assumes nothing.
+use mathlib.Core.Path.{_≡_, sym, _∙_}
 use Prim.Native.Nat.{ℕ, _<_, _^_}
 use native.Mathlib.Omega.{arith}
-use lib.Dec.{T, ltb, ltb→lt}
-use lib.IntN.{ℤ, pos, _+ℤ_}
+use lib.Dec.{T, ltb}
+use lib.IntN.{ℤ, pos}
 use lib.Signed.{mag}
 use mir.Syntax.{w16, w64}
 use mir.Val.{SFits, toZ, ofZ, hbits}
 use mir.Facts.{toZ-ofZ}
-use Rattle.arith.specs.Size.{Bound, bound-fits, bound-pos, bound-machine, bound-equal}
+use Rattle.arith.specs.Size.{Bound, bound-pos, bound-machine, bound-equal}
+use Rattle.arith.specs.Machine.{read-as}
 
 pub record Held (r v : ℤ) (k : ℕ) : Type 0 where
   pub is : toZ w64 (ofZ w64 r) ≡ v
@@ -17,8 +17,8 @@ pub record Held (r v : ℤ) (k : ℕ) : Type 0 where
   pub here : Bound (toZ w64 (ofZ w64 r)) k
 
 pub held : {r v : ℤ} {k : ℕ} → r ≡ v → Bound v k → T (ltb k (2 ^ hbits w64)) → Held r v k
-held {r} {v} {k} e b t =
-    let back : toZ w64 (ofZ w64 r) ≡ v = ap (λ z. toZ w64 (ofZ w64 z)) e ∙ toZ-ofZ (bound-fits b (ltb→lt k (2 ^ hbits w64) t)) in
+held e b t =
+    let back = read-as w64 e b t in
     record { is = back; small = b; here = bound-equal (sym back) b }
 
 -- the numbers of a record, as `unsigned` and `signed` of src/ widen them
@@ -29,20 +29,3 @@ pub held-signed : {r : ℤ} (v : ℤ) → r ≡ toZ w16 (ofZ w16 v) → mag v < 
 held-signed v e h =
     let fits : SFits w16 v = record { sfits = h } in
     held (e ∙ toZ-ofZ fits) (bound-machine fits) tt
-
--- a sum of two machine numbers, read back
-abbrev back : ℤ → ℤ
-back r = toZ w64 (ofZ w64 r)
-
-module _ (a b : ℤ) (ha : mag a < 2 ^ hbits w64) (hb : mag b < 2 ^ hbits w64) (fits : SFits w64 (a +ℤ b)) where
-  operands : back a +ℤ back b ≡ a +ℤ b
-  operands =
-      let fa : SFits w64 a = record { sfits = ha } in
-      let fb : SFits w64 b = record { sfits = hb } in
-      ap₂ _+ℤ_ (toZ-ofZ fa) (toZ-ofZ fb)
-
-  pub sum-fits : SFits w64 (back a +ℤ back b)
-  sum-fits = rw operands fits
-
-  pub sum-held : back (back a +ℤ back b) ≡ a +ℤ b
-  sum-held = ap back operands ∙ toZ-ofZ fits

@@ -2,27 +2,24 @@
 --     refused-means      of the records alone
 --     refused-set        of the operation: 2, 1, or a record's limit
 -- Assumes nothing.
-use mathlib.Core.Path.{_≡_, refl, sym, ap, ap₂, _∙_, subst}
+use mathlib.Core.Path.{_≡_, refl, sym, ap, _∙_, subst}
 use mathlib.Core.Bool.{Bool, true, false, not, _||_}
 use mathlib.Core.List.{List, [], _∷_}
 use mathlib.Core.Logic.{inl, inr}
 use Prim.Native.Nat.{ℕ, zero, suc, _+_, _*_, _/_, _≤_, _<_}
 use native.Mathlib.Nat.{add-assoc, add-zero, zero-add}
 use native.Mathlib.Omega.{arith}
-use lib.Dec.{eqb, ltb}
-use lib.ListN.{length, take, drop, length-drop}
-use lib.Seq.{length-take-le}
+use lib.Dec.{eqb}
+use lib.ListN.{length}
 use lib.IntN.{pos, negℤ}
-use borrow.Author.Tests.{eq-eqb, not-false}
 use Rattle.refusal.specs.Refused.{Answer, result, refused, refuseIf, andThen}
 use Rattle.refusal.proofs.Answers.{same-result, not-result, not-refused}
 use Rattle.particle.specs.declared.Particle.{Particle}
-use Rattle.particle.specs.Layout.{recordLength}
 use Rattle.particle.specs.Record.{particleOf, isℤ, readParticle, readAnswer}
 use Rattle.apic.specs.Totals.{totalMass}
-use Rattle.particles.specs.Set.{validSize, validLength, recordAt, recordCount, onGrid, admitted, setFrom, setOf, setAnswer}
+use Rattle.particles.specs.Set.{validSize, validLength, recordAt, recordCount, admitted, setFrom, setOf, setAnswer}
 use Rattle.particles.specs.Meaning.{leastAfter, limitsOn, FirstBroken, here, later, Broken, Refuses}
-use Rattle.particles.proofs.Checks.{length-limits}
+use Rattle.particles.proofs.Checks.{length-limits, record-long, read-long}
 
 -- ---- a list of checks at one place
 
@@ -64,14 +61,11 @@ module _ (nx ny start : ℕ) (bytes : List ℕ) where
   abbrev allChecks : ℕ → ℕ → ℕ → Answer Particle
   allChecks k least mass = checks (limitsOn nx ny least mass (particleIn k)) k (result (particleIn k))
 
-  long : (k : ℕ) → start + 14 * k + 14 ≤ length bytes → length (recordAt start bytes k) ≡ recordLength
-  long k h = length-take-le 14 (drop (start + 14 * k) bytes) (rw (length-drop (start + 14 * k) bytes) (omega arith))
-
   -- the reader's checks and the set's are one list
   one-list : {B : Type 0} (k least mass : ℕ) (next : Particle → Answer B) → start + 14 * k + 14 ≤ length bytes → andThen (readAnswer k (recordAt start bytes k)) (λ p. andThen (admitted nx ny k least mass p) next) ≡ andThen (allChecks k least mass) next
-  unfolding readAnswer readParticle admitted checks
+  unfolding readParticle admitted checks
   one-list k least mass next h =
-      rw (eq-eqb (length (recordAt start bytes k)) recordLength (long k h))
+      rw (read-long k (recordAt start bytes k) (record-long start bytes k h))
       (joined
       (eqb (particleIn k .mass) 0)
       (isℤ (negℤ (pos 64)) (particleIn k .vx) || isℤ (negℤ (pos 64)) (particleIn k .vy))

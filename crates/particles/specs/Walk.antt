@@ -1,7 +1,8 @@
--- What the internal functions of the walk compute: their contracts name these, and no public operation's does.
+-- What the internal functions of the check and of the walk compute: their contracts name these, and no public operation's does.
 -- Assumes nothing.
 use mathlib.Core.List.{List}
 use Prim.Native.Nat.{ℕ, suc, _+_, _*_, _≤_}
+use lib.ListN.{length}
 use mir.Syntax.{w64}
 use mir.Val.{Fits, SFits}
 use lib.IntN.{ℤ, pos, natAbs, _+ℤ_, _-ℤ_, _*ℤ_}
@@ -9,10 +10,32 @@ use Rattle.refusal.specs.Refused.{Answer, result, refusedBy, andThen}
 use Rattle.particle.specs.declared.Particle.{Particle}
 use Rattle.particles.specs.declared.Totals.{Totals}
 use Rattle.particles.specs.declared.Progress.{Progress}
+use Rattle.particles.specs.declared.Entry.{Entry}
+use Rattle.particles.specs.declared.Entered.{Entered}
+use Rattle.particles.specs.declared.Entered.the-variants as entered
 use Rattle.particles.specs.declared.Next.{Next}
-use Rattle.particles.specs.declared.Next.the-variants.{Admitted, Refused}
+use Rattle.particles.specs.declared.Next.the-variants as next
 use Rattle.particles.specs.Set.{admitted, recordAt, setOf, totalsOf}
 use Rattle.particle.specs.Record.{readAnswer}
+
+-- ---- the check
+
+-- how far the check is after one more particle
+abbrev pub followed : Entry → Particle → Entry
+followed e p = record { least = suc (p .identifier); mass = e .mass + p .mass }
+
+abbrev pub toldEntered : Entered → Answer Entry
+toldEntered (entered.Admitted e) = result e
+toldEntered (entered.Refused f) = refusedBy f
+
+abbrev pub enterAnswer : ℕ → ℕ → ℕ → Entry → Particle → Answer Entry
+enterAnswer nx ny k e p = andThen (admitted nx ny k (e .least) (e .mass) p) (λ q. result (followed e q))
+
+-- and after the record with index k
+abbrev pub enterRecord : ℕ → ℕ → ℕ → List ℕ → ℕ → Entry → Answer Entry
+enterRecord nx ny start bytes k e = andThen (readAnswer k (recordAt start bytes k)) (λ p. enterAnswer nx ny k e p)
+
+-- ---- the walk
 
 -- that each intermediate value of a share is a machine number
 pub record LinearFits (m v : ℤ) : Type 0 where
@@ -73,15 +96,15 @@ abbrev pub advanced : Progress → Particle → Progress
 advanced s p = record { least = suc (p .identifier); totals = plus (s .totals) (share p) }
 
 abbrev pub toldNext : Next → Answer Progress
-toldNext (Admitted s) = result s
-toldNext (Refused e) = refusedBy e
+toldNext (next.Admitted s) = result s
+toldNext (next.Refused e) = refusedBy e
 
 abbrev pub nextAnswer : ℕ → ℕ → ℕ → Progress → Particle → Answer Progress
 nextAnswer nx ny k s p = andThen (admitted nx ny k (s .least) (s .totals .mass) p) (λ q. result (advanced s q))
 
 abbrev pub SmallNext : ℕ → Next → Type 0
-SmallNext n (Admitted s) = Small n (s .totals)
-SmallNext n (Refused e) = Unit {0}
+SmallNext n (next.Admitted s) = Small n (s .totals)
+SmallNext n (next.Refused e) = Unit {0}
 
 -- the progress after the record with index k
 abbrev pub nextRecord : ℕ → ℕ → ℕ → List ℕ → ℕ → Progress → Answer Progress
@@ -90,3 +113,7 @@ nextRecord nx ny start bytes k s = andThen (readAnswer k (recordAt start bytes k
 -- the totals of the records from byte `start` on
 abbrev pub walked : ℕ → ℕ → ℕ → List ℕ → ℕ → Answer Totals
 walked nx ny start bytes count = andThen (setOf nx ny start bytes count) (λ ps. result (totalsOf ps))
+
+-- the number of those records, where they are accepted as a set
+abbrev pub counted : ℕ → ℕ → ℕ → List ℕ → ℕ → Answer ℕ
+counted nx ny start bytes count = andThen (setOf nx ny start bytes count) (λ ps. result (length ps))

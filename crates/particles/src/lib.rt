@@ -12,7 +12,7 @@ ghost use lib.IntN.{pos, _+ℤ_, _-ℤ_, _*ℤ_};
 ghost use Rattle.spline.specs.Spline.{onAxis};
 ghost use Rattle.apic.specs.Limits.{SizeLimits};
 ghost use Rattle.particles.specs.Set.{checkAnswer, toldChecked, totalsAnswer, toldTotalled, validSize, validLength};
-ghost use Rattle.particles.specs.Walk.{SmallNext, nextRecord, walked, SumFits, LinearFits, AngularFits, MotionFits, share, plus, Small, toldNext, nextAnswer};
+ghost use Rattle.particles.specs.Walk.{toldEntered, enterAnswer, enterRecord, counted, SmallNext, nextRecord, walked, SumFits, LinearFits, AngularFits, MotionFits, share, plus, Small, toldNext, nextAnswer};
 
 // The largest total mass of a set.
 pub const TOTAL_MASS: u64 = 131072;
@@ -36,6 +36,17 @@ pub enum Checked {
 
 pub enum Totalled {
     Sums(Totals),
+    Refused(Refusal),
+}
+
+// How far a check has come: one more than the last identifier, and the mass so far.
+pub struct Entry {
+    pub least: u64,
+    pub mass: u64,
+}
+
+pub enum Entered {
+    Admitted(Entry),
     Refused(Refusal),
 }
 
@@ -125,7 +136,7 @@ fn plus_of(s: Totals, t: Totals) -> Totals
     }
 }
 
-// Whether a coordinate is on an axis of n nodes. `admit` calls it with a size in range.
+// Whether a coordinate is on an axis of n nodes. `enter` calls it with a size in range.
 fn on_axis(n: usize, x: u16) -> bool
     requires { ⌜ (4 ≤ n) × (n ≤ 48) ⌝ }
     ensures { λ r. ⌜ r ≡ onAxis n x ⌝ }
@@ -134,32 +145,86 @@ fn on_axis(n: usize, x: u16) -> bool
     32 <= place && place <= 64 * (n - 1) - 33
 }
 
-// The checks of a record that its set decides. `walk` calls it.
+// The checks of a record that its set decides. `enter_record` and `admit` call it, with a mass that 4096 records
+// can have.
+fn enter(p: Particle, k: usize, nx: usize, ny: usize, entry: Entry) -> Entered
+    requires { ⌜ SizeLimits nx ny × (entry .mass ≤ 4096 * 65535) ⌝ }
+    ensures { λ r. ⌜ toldEntered r ≡ enterAnswer nx ny k entry p ⌝ }
+{
+    if !on_axis(nx, p.x) {
+        return Entered::Refused(Refusal::Position(k));
+    }
+    if !on_axis(ny, p.y) {
+        return Entered::Refused(Refusal::Position(k));
+    }
+    if (p.identifier as u64) < entry.least {
+        return Entered::Refused(Refusal::Identifier(k));
+    }
+    let mass = entry.mass + p.mass as u64;
+    if TOTAL_MASS < mass {
+        return Entered::Refused(Refusal::TotalMass(k));
+    }
+    Entered::Admitted(Entry {
+        least: p.identifier as u64 + 1,
+        mass,
+    })
+}
+
+// One turn of the check: the part that starts at the record goes to the record reader, and its answer is taken apart.
+// `check` calls it.
+fn enter_record(nx: usize, ny: usize, bytes: &[u8], start: usize, k: usize, entry: Entry) -> Entered
+    requires { ⌜ SizeLimits nx ny × (entry .mass ≤ 4096 * 65535) × (start + 14 * k + 14 ≤ length (now bytes)) ⌝ }
+    ensures { λ r. ⌜ toldEntered r ≡ enterRecord nx ny start (now (bytes .entry)) k entry ⌝ }
+{
+    let at = start + RECORD_LENGTH * k;
+    match particle::accept(particle::unpack(&bytes[at..at + RECORD_LENGTH]), k) {
+        Read::Found(p) => enter(p, k, nx, ny, entry),
+        Read::Refused(refusal) => Entered::Refused(refusal),
+    }
+}
+
+// Checks `count` records from byte `start` on. Every operation on a set calls it, and so does whoever has records behind
+// a header.
+pub fn check(nx: usize, ny: usize, bytes: &[u8], start: usize, count: usize) -> Checked
+    requires { ⌜ SizeLimits nx ny × (count ≤ 4096) × (start + 14 * count ≤ length (now bytes)) ⌝ }
+    ensures { λ r. ⌜ toldChecked r ≡ counted nx ny start (now (bytes .entry)) count ⌝ }
+{
+    let mut entry = Entry { least: 0, mass: 0 };
+    let mut k = 0;
+    while k < count {
+        match enter_record(nx, ny, bytes, start, k, entry) {
+            Entered::Admitted(next) => {
+                entry = next;
+            }
+            Entered::Refused(refusal) => {
+                return Checked::Refused(refusal);
+            }
+        }
+        k += 1;
+    }
+    Checked::Records(count)
+}
+
+// A record's checks, and its share added to the totals. `next_record` calls it.
 fn admit(p: Particle, k: usize, nx: usize, ny: usize, progress: Progress) -> Next
     requires { ⌜ SizeLimits nx ny × (k < 4096) × Small k (progress .totals) ⌝ }
     ensures { λ r. ⌜ (toldNext r ≡ nextAnswer nx ny k progress p) × SmallNext (k + 1) r ⌝ }
 {
-    if !on_axis(nx, p.x) {
-        return Next::Refused(Refusal::Position(k));
-    }
-    if !on_axis(ny, p.y) {
-        return Next::Refused(Refusal::Position(k));
-    }
-    if (p.identifier as u64) < progress.least {
-        return Next::Refused(Refusal::Identifier(k));
-    }
     let before = progress.totals;
-    let totals = plus_of(before, share_of(p));
-    if TOTAL_MASS < totals.mass {
-        return Next::Refused(Refusal::TotalMass(k));
+    let entry = Entry {
+        least: progress.least,
+        mass: before.mass,
+    };
+    match enter(p, k, nx, ny, entry) {
+        Entered::Admitted(next) => Next::Admitted(Progress {
+            least: next.least,
+            totals: plus_of(before, share_of(p)),
+        }),
+        Entered::Refused(refusal) => Next::Refused(refusal),
     }
-    Next::Admitted(Progress {
-        least: p.identifier as u64 + 1,
-        totals,
-    })
 }
 
-// One turn of the walk: the part that starts at the record goes to the record reader, and its answer is taken apart.
+// One turn of the walk, as `enter_record` is of the check. `walk` calls it.
 fn next_record(
     nx: usize,
     ny: usize,
@@ -172,7 +237,7 @@ fn next_record(
     ensures { λ r. ⌜ (toldNext r ≡ nextRecord nx ny start (now (bytes .entry)) k progress) × SmallNext (k + 1) r ⌝ }
 {
     let at = start + RECORD_LENGTH * k;
-    match particle::read_at(&bytes[at..at + RECORD_LENGTH], k) {
+    match particle::accept(particle::unpack(&bytes[at..at + RECORD_LENGTH]), k) {
         Read::Found(p) => admit(p, k, nx, ny, progress),
         Read::Refused(refusal) => Next::Refused(refusal),
     }
@@ -247,8 +312,11 @@ pub fn set_totals(nx: usize, ny: usize, records: &[u8]) -> Totalled
 pub fn check_set(nx: usize, ny: usize, records: &[u8]) -> Checked
     ensures { λ r. ⌜ toldChecked r ≡ checkAnswer nx ny (now (records .entry)) ⌝ }
 {
-    match set_totals(nx, ny, records) {
-        Totalled::Sums(_) => Checked::Records(records.len() / RECORD_LENGTH),
-        Totalled::Refused(refusal) => Checked::Refused(refusal),
+    if !size_is_valid(nx, ny) {
+        return Checked::Refused(Refusal::GridSize);
     }
+    if !length_is_valid(records.len()) {
+        return Checked::Refused(Refusal::Length);
+    }
+    check(nx, ny, records, 0, records.len() / RECORD_LENGTH)
 }

@@ -14,10 +14,10 @@ use lib.IntN.{ℤ, _+ℤ_, _-ℤ_}
 use mir.Syntax.{w64}
 use mir.Val.{SFits, toZ, ofZ}
 use Rattle.arith.specs.Size.{Bound, sizes, fits, bounded}
+use Rattle.arith.specs.Machine.{read, fits₂, result₂}
 use Rattle.spline.specs.declared.AxisWeights.{AxisWeights}
 use Rattle.grid_cells.specs.Cells.{mostHeld}
 use Rattle.scatter_block.specs.Lines.{Held, massLine, momentumLine, massBlock, momentumBlock, LineNumbers, LineLimits, LineAdded, BlockLimits, BlockAdded, mostSpeed, mostChange, mostMiddle}
-use Rattle.scatter_block.proofs.Machine.{passed, fits₂, result₂}
 use Rattle.scatter_block.proofs.Line.{line-held, held-widen}
 
 -- ---- s at the three lines
@@ -34,8 +34,8 @@ pub record Speeds (s c : ℤ) : Type 0 where
 
 pub speeds : (s c : ℤ) → Bound s mostMiddle → Bound c mostChange → Speeds s c
 speeds s c p q =
-    let s-is = passed p tt in
-    let c-is = passed q tt in
+    let s-is = read w64 p tt in
+    let c-is = read w64 q tt in
     record {
       below = bounded (search sizes depth 20) tt;
       here = bounded (search sizes depth 20) tt;
@@ -110,10 +110,10 @@ module _ {size nx : ℕ} {mass : List ℕ} {px py : List ℤ} {k m : ℕ} {wx wy
       }
 
   bxx-is : toZ w64 (ofZ w64 bxx) ≡ bxx
-  bxx-is = passed (limits .bxx-most) tt
+  bxx-is = read w64 (limits .bxx-most) tt
 
   byx-is : toZ w64 (ofZ w64 byx) ≡ byx
-  byx-is = passed (limits .byx-most) tt
+  byx-is = read w64 (limits .byx-most) tt
 
   module _ {below here above : ℕ} (e1 : below ≡ m * wy .lower) (e2 : here ≡ m * wy .nearest) (e3 : above ≡ m * wy .upper) where
     pub ask-1 : LineLimits size mass px py (k - nx) below wx (toZ w64 (ofZ w64 (toZ w64 (ofZ w64 sx) -ℤ toZ w64 (ofZ w64 bxy)))) (toZ w64 (ofZ w64 bxx)) (toZ w64 (ofZ w64 (toZ w64 (ofZ w64 sy) -ℤ toZ w64 (ofZ w64 byy)))) (toZ w64 (ofZ w64 byx))

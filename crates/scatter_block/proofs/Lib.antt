@@ -1,4 +1,3 @@
-pub mod Machine
 pub mod Momenta
 pub mod Line
 pub mod Block

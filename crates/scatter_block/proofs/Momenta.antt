@@ -6,9 +6,9 @@ use lib.IntN.{ℤ, pos, _+ℤ_, _-ℤ_, _*ℤ_}
 use mir.Syntax.{w64}
 use mir.Val.{SFits, toZ, ofZ}
 use Rattle.arith.specs.Size.{Bound, sizes, size-given, fits, bounded}
+use Rattle.arith.specs.Machine.{read, read-natural, fits₂, result₂}
 use Rattle.grid_cells.specs.Cells.{addRow, RowLimits, mostAdded}
 use Rattle.scatter_block.specs.Lines.{momentumRow, MomentumLimits, mostMassWeight, mostSpeed, mostChange}
-use Rattle.scatter_block.proofs.Machine.{passed, signed, fits₂, result₂}
 
 product-fits : (m : ℕ) (z : ℤ) → m ≤ mostMassWeight → Bound z (mostSpeed + mostChange) → SFits w64 (pos m *ℤ z)
 product-fits m z h b = fits (search sizes depth 20) tt
@@ -30,8 +30,8 @@ factors s b p q =
       below = bounded (search sizes depth 20) tt;
       here = bounded (search sizes depth 20) tt;
       above = bounded (search sizes depth 20) tt;
-      s-is = passed p tt;
-      b-is = passed q tt;
+      s-is = read w64 p tt;
+      b-is = read w64 q tt;
     }
 
 module _ {l : List ℤ} {k lower nearest upper : ℕ} {s b : ℤ} (limits : MomentumLimits l k lower nearest upper s b) where
@@ -68,13 +68,13 @@ module _ {l : List ℤ} {k lower nearest upper : ℕ} {s b : ℤ} (limits : Mome
   more-is = result₂ _+ℤ_ (f .s-is) (f .b-is) (s-fits .1)
 
   pub below-fits : SFits w64 (toZ w64 lower *ℤ toZ w64 (ofZ w64 (toZ w64 (ofZ w64 s) -ℤ toZ w64 (ofZ w64 b))))
-  below-fits = fits₂ _*ℤ_ (signed (limits .lower-most) tt) less-is (product-fits lower (s -ℤ b) (limits .lower-most) (f .below))
+  below-fits = fits₂ _*ℤ_ (read-natural w64 (limits .lower-most) tt) less-is (product-fits lower (s -ℤ b) (limits .lower-most) (f .below))
 
   pub here-fits : SFits w64 (toZ w64 nearest *ℤ toZ w64 (ofZ w64 s))
-  here-fits = fits₂ _*ℤ_ (signed (limits .nearest-most) tt) (f .s-is) (product-fits nearest s (limits .nearest-most) (f .here))
+  here-fits = fits₂ _*ℤ_ (read-natural w64 (limits .nearest-most) tt) (f .s-is) (product-fits nearest s (limits .nearest-most) (f .here))
 
   pub above-fits : SFits w64 (toZ w64 upper *ℤ toZ w64 (ofZ w64 (toZ w64 (ofZ w64 s) +ℤ toZ w64 (ofZ w64 b))))
-  above-fits = fits₂ _*ℤ_ (signed (limits .upper-most) tt) more-is (product-fits upper (s +ℤ b) (limits .upper-most) (f .above))
+  above-fits = fits₂ _*ℤ_ (read-natural w64 (limits .upper-most) tt) more-is (product-fits upper (s +ℤ b) (limits .upper-most) (f .above))
 
   -- the three shares that the machine passes on
   module _ (l′ : List ℤ) {u v w : ℤ} (p : u ≡ pos lower *ℤ (s -ℤ b)) (q : v ≡ pos nearest *ℤ s) (r : w ≡ pos upper *ℤ (s +ℤ b)) where
@@ -86,10 +86,10 @@ module _ {l : List ℤ} {k lower nearest upper : ℕ} {s b : ℤ} (limits : Mome
     given e = e ∙ (λ t. addRow l k (p t) (q t) (r t))
 
   pub below-is : toZ w64 (ofZ w64 (toZ w64 lower *ℤ toZ w64 (ofZ w64 (toZ w64 (ofZ w64 s) -ℤ toZ w64 (ofZ w64 b))))) ≡ pos lower *ℤ (s -ℤ b)
-  below-is = result₂ _*ℤ_ (signed (limits .lower-most) tt) less-is (product-fits lower (s -ℤ b) (limits .lower-most) (f .below))
+  below-is = result₂ _*ℤ_ (read-natural w64 (limits .lower-most) tt) less-is (product-fits lower (s -ℤ b) (limits .lower-most) (f .below))
 
   pub here-is : toZ w64 (ofZ w64 (toZ w64 nearest *ℤ toZ w64 (ofZ w64 s))) ≡ pos nearest *ℤ s
-  here-is = result₂ _*ℤ_ (signed (limits .nearest-most) tt) (f .s-is) (product-fits nearest s (limits .nearest-most) (f .here))
+  here-is = result₂ _*ℤ_ (read-natural w64 (limits .nearest-most) tt) (f .s-is) (product-fits nearest s (limits .nearest-most) (f .here))
 
   pub above-is : toZ w64 (ofZ w64 (toZ w64 upper *ℤ toZ w64 (ofZ w64 (toZ w64 (ofZ w64 s) +ℤ toZ w64 (ofZ w64 b))))) ≡ pos upper *ℤ (s +ℤ b)
-  above-is = result₂ _*ℤ_ (signed (limits .upper-most) tt) more-is (product-fits upper (s +ℤ b) (limits .upper-most) (f .above))
+  above-is = result₂ _*ℤ_ (read-natural w64 (limits .upper-most) tt) more-is (product-fits upper (s +ℤ b) (limits .upper-most) (f .above))

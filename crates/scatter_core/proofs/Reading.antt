@@ -1,35 +1,29 @@
 -- Reading the k-th particle's numbers from an array that holds a particle set. Assumes nothing.
-use mathlib.Core.Path.{_≡_, sym, ap, subst, _∙_}
+use mathlib.Core.Path.{_≡_, sym, subst}
 use mathlib.Core.List.{List, [], _∷_}
-use Prim.Native.Nat.{ℕ, _+_, _*_, _^_, _<_, _≤_}
+use Prim.Native.Nat.{ℕ, _+_, _*_, _<_, _≤_}
 use native.Mathlib.Omega.{arith}
-use lib.Dec.{T, ltb, lit<}
+use lib.Dec.{T, lit<}
 use lib.ListN.{length, getD}
 use lib.IntN.{ℤ, pos, natAbs}
 use lib.Signed.{nonNeg}
 use mir.Syntax.{w64}
-use mir.Val.{Fits, toZ, ofZ, hbits}
+use mir.Val.{Fits, toZ, ofZ}
 use mir.Facts.{fits-below}
 use Rattle.arith.specs.Size.{bound-pos}
+use Rattle.arith.specs.Machine.{read-size, read-as}
 use Rattle.particle.specs.declared.Particle.{Particle}
 use Rattle.apic.specs.Step.{nodeMass, nodeMomentum}
 use Rattle.apic.specs.Limits.{ParticleLimits}
 use Rattle.unpacked.specs.Unpacked.{particleAt}
 use Rattle.unpacked.proofs.Laws.{NumbersAt, count, set-numbers-at, limits-at}
-use Rattle.scatter_block.proofs.Machine.{passed}
 use Rattle.scatter_particle.specs.Added.{Added, ParticleReady, particleOf}
 use Rattle.scatter_particle.proofs.Particles.{axis-small}
 use Rattle.scatter_core.specs.Scatter.{NthReady}
 
--- a number that is read, and a natural number's cast
-read-natural : {z : ℤ} {m n : ℕ} → z ≡ pos m → m ≤ n → T (ltb n (2 ^ hbits w64)) → toZ w64 (ofZ w64 z) ≡ pos m
-read-natural e h t = ap (λ z. toZ w64 (ofZ w64 z)) e ∙ passed (bound-pos h) t
-
-read-signed : (z : ℤ) {n : ℕ} → natAbs z ≤ n → T (ltb n (2 ^ hbits w64)) → toZ w64 (ofZ w64 z) ≡ z
-read-signed z {n} h t = passed {n = n} (record { size = h }) t
-
+-- a natural number, as it is cast
 cast-natural : {z : ℤ} {m : ℕ} → z ≡ pos m → m ≤ 4095 → T (nonNeg (toZ w64 (ofZ w64 z))) × Fits w64 (natAbs (toZ w64 (ofZ w64 z)))
-cast-natural e h = rw (read-natural e h tt) (tt, fits-below tt h)
+cast-natural e h = rw (read-as w64 e (bound-pos h) tt) (tt, fits-below tt h)
 
 module _ {nx ny : ℕ} {l : List ℤ} {k : ℕ} {weights : List (List ℕ)} {mass : List ℕ} {px py : List ℤ} (ready : NthReady nx ny l k weights mass px py) where
   pub index-below : (f : ℕ) → f < 10 → 10 * k + f < length l
@@ -66,8 +60,8 @@ module _ {nx ny : ℕ} {l : List ℤ} {k : ℕ} {weights : List (List ℕ)} {mas
   read : particleOf (natAbs (toZ w64 (ofZ w64 (getD l (10 * k + 1) (pos 0))))) (natAbs (toZ w64 (ofZ w64 (getD l (10 * k + 2) (pos 0))))) (natAbs (toZ w64 (ofZ w64 (getD l (10 * k + 3) (pos 0))))) (toZ w64 (ofZ w64 (getD l (10 * k + 4) (pos 0)))) (toZ w64 (ofZ w64 (getD l (10 * k + 5) (pos 0)))) (toZ w64 (ofZ w64 (getD l (10 * k + 6) (pos 0)))) (toZ w64 (ofZ w64 (getD l (10 * k + 7) (pos 0)))) (toZ w64 (ofZ w64 (getD l (10 * k + 8) (pos 0)))) (toZ w64 (ofZ w64 (getD l (10 * k + 9) (pos 0)))) ≡ nameless
   unfolding nameless
   read =
-      λ t. particleOf (natAbs (read-natural (at .mass) mass-small tt t)) (natAbs (read-natural (at .x) x-small tt t)) (natAbs (read-natural (at .y) y-small tt t))
-      (read-signed (particleAt l k .vx) (limits .vx) tt t) (read-signed (particleAt l k .vy) (limits .vy) tt t) (read-signed (particleAt l k .bxx) (limits .bxx) tt t) (read-signed (particleAt l k .bxy) (limits .bxy) tt t) (read-signed (particleAt l k .byx) (limits .byx) tt t) (read-signed (particleAt l k .byy) (limits .byy) tt t)
+      λ t. particleOf (natAbs (read-as w64 (at .mass) (bound-pos mass-small) tt t)) (natAbs (read-as w64 (at .x) (bound-pos x-small) tt t)) (natAbs (read-as w64 (at .y) (bound-pos y-small) tt t))
+      (read-size w64 (particleAt l k .vx) (limits .vx) tt t) (read-size w64 (particleAt l k .vy) (limits .vy) tt t) (read-size w64 (particleAt l k .bxx) (limits .bxx) tt t) (read-size w64 (particleAt l k .bxy) (limits .bxy) tt t) (read-size w64 (particleAt l k .byx) (limits .byx) tt t) (read-size w64 (particleAt l k .byy) (limits .byy) tt t)
 
   pub nth-asked : ParticleReady nx ny (particleOf (natAbs (toZ w64 (ofZ w64 (getD l (10 * k + 1) (pos 0))))) (natAbs (toZ w64 (ofZ w64 (getD l (10 * k + 2) (pos 0))))) (natAbs (toZ w64 (ofZ w64 (getD l (10 * k + 3) (pos 0))))) (toZ w64 (ofZ w64 (getD l (10 * k + 4) (pos 0)))) (toZ w64 (ofZ w64 (getD l (10 * k + 5) (pos 0)))) (toZ w64 (ofZ w64 (getD l (10 * k + 6) (pos 0)))) (toZ w64 (ofZ w64 (getD l (10 * k + 7) (pos 0)))) (toZ w64 (ofZ w64 (getD l (10 * k + 8) (pos 0)))) (toZ w64 (ofZ w64 (getD l (10 * k + 9) (pos 0))))) weights mass px py
   unfolding nameless

@@ -1,8 +1,8 @@
 -- Adding particle after particle.
 --     added-none, added-append      no particle, and one set after another
 --     SoFar, begin, turn, finish    the loop over a set: what is added after k particles
---     held-so-far                   the total mass bounds every cell on the way
---     scattered                     a set added to cleared grids
+--     added-held, held-so-far       the total mass bounds every cell on the way
+--     cleared-held, scattered       cleared grids, and a set added to them
 -- Assumes nothing.
 use mathlib.Core.Path.{_≡_, refl, sym, ap, subst, _∙_}
 use mathlib.Core.List.{List, [], _∷_, _++_, map}
@@ -78,35 +78,35 @@ module _ (nx ny : ℕ) where
       }
 
   -- the total mass bounds every cell
-  pub added-held : (ps : List Particle) {mass mass′ : List ℕ} {px py px′ py′ : List ℤ} → Each (ParticleLimits nx ny) ps → totalMass ps ≤ 131072 → Held mostAtFirst (nx * ny) mass px py → Added nx ny ps mass px py mass′ px′ py′ → Held mostBefore (nx * ny) mass′ px′ py′
-  added-held ps {mass} {px} {py} h m held a =
+  pub added-held : (ps : List Particle) {mass mass′ : List ℕ} {px py px′ py′ : List ℤ} (n m : ℕ) → n + 131072 * (weightMost * rateMost) ≤ m → Each (ParticleLimits nx ny) ps → totalMass ps ≤ 131072 → Held n (nx * ny) mass px py → Added nx ny ps mass px py mass′ px′ py′ → Held m (nx * ny) mass′ px′ py′
+  added-held ps {mass} {px} {py} n m most h light held a =
       record {
         mass-long = ap length (a .of-mass) ∙ length-mass-plus nx ny mass (massAt ps);
         px-long = ap length (a .of-px) ∙ length-plus nx ny px (momentumAt alongX ps);
         py-long = ap length (a .of-py) ∙ length-plus nx ny py (momentumAt alongY ps);
         mass-cells =
             rw (ap (map pos) (a .of-mass) ∙ plus-mass nx ny mass (massAt ps) (mass-nonneg nx ny ps h))
-            (cells-widen (lit≤ tt)
-            (plus-cells nx ny (map pos mass) (massAt ps) mostAtFirst (131072 * weightMost) (held .mass-cells)
-            (λ i j. bound-widen (mul-le-mul-right weightMost m) (mass-bounded nx ny ps h i j))));
+            (cells-widen (omega (arith, most))
+            (plus-cells nx ny (map pos mass) (massAt ps) n (131072 * weightMost) (held .mass-cells)
+            (λ i j. bound-widen (mul-le-mul-right weightMost light) (mass-bounded nx ny ps h i j))));
         px-cells = rw (a .of-px) (momentum-cells alongX px (held .px-cells));
         py-cells = rw (a .of-py) (momentum-cells alongY py (held .py-cells));
       }
     where
-      momentum-cells : (a : Axis) (l : List ℤ) → Cells mostAtFirst l → Cells mostBefore (plus nx ny l (momentumAt a ps))
+      momentum-cells : (a : Axis) (l : List ℤ) → Cells n l → Cells m (plus nx ny l (momentumAt a ps))
       momentum-cells a l c =
-          cells-widen (lit≤ tt)
-          (plus-cells nx ny l (momentumAt a ps) mostAtFirst (131072 * (weightMost * rateMost)) c
-          (λ i j. bound-widen (mul-le-mul-right (weightMost * rateMost) m) (momentum-bounded nx ny ps h i j a)))
+          cells-widen most
+          (plus-cells nx ny l (momentumAt a ps) n (131072 * (weightMost * rateMost)) c
+          (λ i j. bound-widen (mul-le-mul-right (weightMost * rateMost) light) (momentum-bounded nx ny ps h i j a)))
 
 -- ---- the loop over a set
 
-each-take : {A : Type 0} (P : A → Type 0) (k : ℕ) (xs : List A) → Each P xs → Each P (take k xs)
+pub each-take : {A : Type 0} (P : A → Type 0) (k : ℕ) (xs : List A) → Each P xs → Each P (take k xs)
 each-take P zero xs e = tt
 each-take P (suc k) [] e = tt
 each-take P (suc k) (x ∷ xs) e = (e .0, each-take P k xs (e .1))
 
-mass-take : (k : ℕ) (ps : List Particle) → totalMass (take k ps) ≤ totalMass ps
+pub mass-take : (k : ℕ) (ps : List Particle) → totalMass (take k ps) ≤ totalMass ps
 mass-take zero ps = zero-le
 mass-take (suc k) [] = zero-le
 mass-take (suc k) (p ∷ ps) = grown (p .mass) (totalMass (take k ps)) (totalMass ps) (mass-take k ps)
@@ -132,7 +132,7 @@ module _ {nx ny : ℕ} {l : List ℤ} {weights : List (List ℕ)} {mass : List �
   module _ {mass′ : List ℕ} {px′ py′ : List ℤ} {k : ℕ} (so-far : SoFar nx ny l mass px py mass′ px′ py′ k) where
     pub held-so-far : Held mostBefore (nx * ny) mass′ px′ py′
     held-so-far =
-        added-held nx ny (take k (particlesOf l)) (each-k k) (le-trans (mass-take k (particlesOf l)) (ready .set .limits .mass)) (ready .held) (so-far .added)
+        added-held nx ny (take k (particlesOf l)) mostAtFirst mostBefore (lit≤ tt) (each-k k) (le-trans (mass-take k (particlesOf l)) (ready .set .limits .mass)) (ready .held) (so-far .added)
 
     pub nth-ready : k < length l / 10 → NthReady nx ny l k weights mass′ px′ py′
     nth-ready h =
@@ -180,30 +180,33 @@ mass-plus-zeros nx ny n f =
     grid-cong nx ny (λ i j. getD (replicate n 0) (j * nx + i) 0 + natAbs (f i j)) (λ i j. natAbs (f i j))
     (λ i j. ap (λ z. z + natAbs (f i j)) (getD-zeros 0 n (j * nx + i)) ∙ zero-add (natAbs (f i j)))
 
-zero-bound : (l : List ℤ) → ((k : ℕ) → getD l k (pos 0) ≡ pos 0) → Cells mostAtFirst l
-zero-bound l h = record { cell = λ k. rw (h k) (record { size = zero-le }) }
+zero-bound : (n : ℕ) (l : List ℤ) → ((k : ℕ) → getD l k (pos 0) ≡ pos 0) → Cells n l
+zero-bound n l h = record { cell = λ k. rw (h k) (record { size = zero-le }) }
 
-module _ {nx ny : ℕ} {l : List ℤ} {weights : List (List ℕ)} {mass : List ℕ} {px py : List ℤ} (ready : ScatterReady nx ny l weights mass px py) {mass′ : List ℕ} {px′ py′ : List ℤ} (of-mass : mass′ ≡ replicate (length mass) 0) (of-px : px′ ≡ replicate (length px) (pos 0)) (of-py : py′ ≡ replicate (length py) (pos 0)) where
-  pub set-ready : SetReady nx ny l weights mass′ px′ py′
-  set-ready =
+module _ (mass : List ℕ) (px py : List ℤ) {mass′ : List ℕ} {px′ py′ : List ℤ} (of-mass : mass′ ≡ replicate (length mass) 0) (of-px : px′ ≡ replicate (length px) (pos 0)) (of-py : py′ ≡ replicate (length py) (pos 0)) where
+  pub cleared-held : {size : ℕ} (n : ℕ) → length mass ≡ size → length px ≡ size → length py ≡ size → Held n size mass′ px′ py′
+  cleared-held n mass-long px-long py-long =
+      record {
+        mass-long = ap length of-mass ∙ length-replicate (length mass) 0 ∙ mass-long;
+        px-long = ap length of-px ∙ length-replicate (length px) (pos 0) ∙ px-long;
+        py-long = ap length of-py ∙ length-replicate (length py) (pos 0) ∙ py-long;
+        mass-cells =
+            zero-bound n (map pos mass′)
+            (λ k. List·getD-map pos mass′ k 0 ∙ ap pos (ap (λ m. getD m k 0) of-mass ∙ getD-zeros 0 (length mass) k));
+        px-cells = zero-bound n px′ (λ k. ap (λ m. getD m k (pos 0)) of-px ∙ getD-zeros (pos 0) (length px) k);
+        py-cells = zero-bound n py′ (λ k. ap (λ m. getD m k (pos 0)) of-py ∙ getD-zeros (pos 0) (length py) k);
+      }
+
+  pub set-ready : {nx ny : ℕ} {l : List ℤ} {weights : List (List ℕ)} → ScatterReady nx ny l weights mass px py → SetReady nx ny l weights mass′ px′ py′
+  set-ready ready =
       record {
         set = ready .set;
         is-table = ready .is-table;
-        held =
-            record {
-              mass-long = ap length of-mass ∙ length-replicate (length mass) 0 ∙ ready .mass-long;
-              px-long = ap length of-px ∙ length-replicate (length px) (pos 0) ∙ ready .px-long;
-              py-long = ap length of-py ∙ length-replicate (length py) (pos 0) ∙ ready .py-long;
-              mass-cells =
-                  zero-bound (map pos mass′)
-                  (λ k. List·getD-map pos mass′ k 0 ∙ ap pos (ap (λ m. getD m k 0) of-mass ∙ getD-zeros 0 (length mass) k));
-              px-cells = zero-bound px′ (λ k. ap (λ m. getD m k (pos 0)) of-px ∙ getD-zeros (pos 0) (length px) k);
-              py-cells = zero-bound py′ (λ k. ap (λ m. getD m k (pos 0)) of-py ∙ getD-zeros (pos 0) (length py) k);
-            };
+        held = cleared-held mostAtFirst (ready .mass-long) (ready .px-long) (ready .py-long);
       }
 
-  pub scattered : (ps : List Particle) {mass″ : List ℕ} {px″ py″ : List ℤ} → Added nx ny ps mass′ px′ py′ mass″ px″ py″ → Scattered nx ny ps mass″ px″ py″
-  scattered ps a =
+  pub scattered : {nx ny : ℕ} {ps : List Particle} {mass″ : List ℕ} {px″ py″ : List ℤ} → Added nx ny ps mass′ px′ py′ mass″ px″ py″ → Scattered nx ny ps mass″ px″ py″
+  scattered {nx} {ny} {ps} a =
       record {
         of-mass =
             a .of-mass ∙ ap (λ m. massPlus nx ny m (massAt ps)) of-mass ∙ mass-plus-zeros nx ny (length mass) (massAt ps);

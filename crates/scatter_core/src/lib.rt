@@ -47,7 +47,7 @@ fn add_nth(
     );
 }
 
-// Adds a particle set to what the grids hold. `scatter_all` calls it.
+// Adds a particle set to what the grids hold. `scatter_all` and the scatter of crate transfer call it.
 pub fn add_all(
     particles: &[i64],
     nx: usize,
@@ -68,7 +68,7 @@ pub fn add_all(
     }
 }
 
-// Clears the grids and adds every particle. The scatter of `transfer` and the step call it.
+// Clears the grids and adds every particle. The step calls it.
 pub fn scatter_all(
     particles: &[i64],
     nx: usize,

@@ -12,8 +12,8 @@ use mir.Syntax.{w64}
 use mir.Val.{SFits, toZ, ofZ}
 use Rattle.arith.specs.Order.{linear, reading}
 use Rattle.arith.specs.Size.{Bound, sizes, fits, size-given, bound-equal, within-bound}
+use Rattle.arith.specs.Machine.{read, read-natural, fits₂, result₂}
 use Rattle.spline.specs.Spline.{nearestNode, displacement}
-use Rattle.scatter_block.proofs.Machine.{passed, signed, fits₂, result₂}
 use Rattle.scatter_particle.specs.Added.{Middle, SpeedLimits}
 
 -- ---- the nearest node minus particle
@@ -31,7 +31,7 @@ middle-most r h = within-bound (linear [] (tt {0}) (search reading depth 30) (om
 
 module _ (x : ℕ) where
   row-is : toZ w64 ((x + 32) % 64) ≡ pos ((x + 32) % 64)
-  row-is = signed (row-most x) tt
+  row-is = read-natural w64 (row-most x) tt
 
   clean : SFits w64 (pos 32 -ℤ pos ((x + 32) % 64))
   clean = fits (size-given (middle-most ((x + 32) % 64) (row-most x))) tt
@@ -74,11 +74,11 @@ speed-fits v bx by dx dy p q r s t =
 pub speed-facts : {v bx by dx dy : ℤ} → SpeedLimits v bx by dx dy → SpeedFacts v bx by dx dy
 speed-facts {v} {bx} {by} {dx} {dy} l =
     let f = speed-fits v bx by dx dy (l .v-most) (l .bx-most) (l .by-most) (l .dx-most) (l .dy-most) in
-    let v-is = passed (l .v-most) tt in
-    let bx-is = passed (l .bx-most) tt in
-    let by-is = passed (l .by-most) tt in
-    let dx-is = passed (l .dx-most) tt in
-    let dy-is = passed (l .dy-most) tt in
+    let v-is = read w64 (l .v-most) tt in
+    let bx-is = read w64 (l .bx-most) tt in
+    let by-is = read w64 (l .by-most) tt in
+    let dx-is = read w64 (l .dx-most) tt in
+    let dy-is = read w64 (l .dy-most) tt in
     let a = result₂ _*ℤ_ (refl {a = pos 1024}) v-is (f .one) in
     let b = result₂ _*ℤ_ bx-is dx-is (f .two) in
     let c = result₂ _+ℤ_ a b (f .three) in
@@ -99,7 +99,7 @@ module _ {b : ℤ} (h : Bound b 2047) where
   spread-clean = fits (search sizes depth 20) tt
 
   pub spread-fits : SFits w64 (pos 64 *ℤ (toZ w64 (ofZ w64 b)))
-  spread-fits = fits₂ _*ℤ_ (refl {a = pos 64}) (passed h tt) spread-clean
+  spread-fits = fits₂ _*ℤ_ (refl {a = pos 64}) (read w64 h tt) spread-clean
 
   pub spread-is : toZ w64 (ofZ w64 (pos 64 *ℤ (toZ w64 (ofZ w64 b)))) ≡ pos 64 *ℤ b
-  spread-is = result₂ _*ℤ_ (refl {a = pos 64}) (passed h tt) spread-clean
+  spread-is = result₂ _*ℤ_ (refl {a = pos 64}) (read w64 h tt) spread-clean

@@ -16,6 +16,7 @@ use mir.Syntax.{w64}
 use mir.Val.{toZ, ofZ}
 use mir.Facts.{and-yes}
 use Rattle.arith.specs.Size.{Bound, sizes, bounded, bound-equal}
+use Rattle.arith.specs.Machine.{read, read-bound}
 use Rattle.spline.specs.Spline.{onAxis, nearestNode, displacement, axisWeight}
 use Rattle.spline.specs.Answers.{rowOf}
 use Rattle.spline.specs.declared.AxisWeights.{AxisWeights}
@@ -25,7 +26,6 @@ use Rattle.apic.specs.Step.{Axis, alongX, alongY, velocity, affine, nodeMass, n
 use Rattle.apic.specs.Limits.{SizeLimits}
 use Rattle.grid_cells.proofs.Grids.{row-high, line-above-index, index-below, plus-cong, mass-plus}
 use Rattle.scatter_block.specs.Lines.{Held, BlockLimits, BlockAdded, mostBefore, mostMiddle, mostChange}
-use Rattle.scatter_block.proofs.Machine.{passed}
 use Rattle.scatter_particle.specs.Added.{Added, ParticleReady, Middle, massAt, momentumAt}
 use Rattle.scatter_particle.proofs.Weights.{WeightsOf, weights-of}
 use Rattle.scatter_particle.proofs.Bounds.{mass-nonneg, AlongLimits, along-limits}
@@ -67,30 +67,30 @@ module _ {v bx by dx dy : ℤ} {x y : ℕ} (v-most : Bound v 63) (bx-most : Boun
   rate-is =
       is
       ∙ (λ t.
-      pos 1024 *ℤ passed v-most tt t +ℤ passed bx-most tt t *ℤ passed (x-middle .most) tt t
-      +ℤ passed by-most tt t *ℤ passed (y-middle .most) tt t)
+      pos 1024 *ℤ read w64 v-most tt t +ℤ read w64 bx-most tt t *ℤ read w64 (x-middle .most) tt t
+      +ℤ read w64 by-most tt t *ℤ read w64 (y-middle .most) tt t)
 
   s-most : Bound s mostMiddle
   s-most = bound-equal (sym rate-is) (rate-most v bx by dx dy v-most bx-most by-most (x-middle .most) (y-middle .most))
 
   pub speed-most : Bound (toZ w64 (ofZ w64 s)) mostMiddle
-  speed-most = bound-equal (sym (passed s-most tt)) s-most
+  speed-most = read-bound w64 s-most tt
 
   pub speed-is : toZ w64 (ofZ w64 s) ≡ pos 1024 *ℤ v +ℤ bx *ℤ displacement x (nearestNode x) +ℤ by *ℤ displacement y (nearestNode y)
-  speed-is = passed s-most tt ∙ rate-is ∙ (λ t. pos 1024 *ℤ v +ℤ bx *ℤ x-middle .is t +ℤ by *ℤ y-middle .is t)
+  speed-is = read w64 s-most tt ∙ rate-is ∙ (λ t. pos 1024 *ℤ v +ℤ bx *ℤ x-middle .is t +ℤ by *ℤ y-middle .is t)
 
 module _ {b : ℤ} (b-most : Bound b 2047) {r : ℤ} (is : r ≡ pos 64 *ℤ toZ w64 (ofZ w64 b)) where
   clean : r ≡ pos 64 *ℤ b
-  clean = is ∙ (λ t. pos 64 *ℤ passed b-most tt t)
+  clean = is ∙ (λ t. pos 64 *ℤ read w64 b-most tt t)
 
   change-most : Bound r mostChange
   change-most = bound-equal (sym clean) (bounded (search sizes depth 20) tt)
 
   pub spread-most : Bound (toZ w64 (ofZ w64 r)) mostChange
-  spread-most = bound-equal (sym (passed change-most tt)) change-most
+  spread-most = read-bound w64 change-most tt
 
   pub spread-is : toZ w64 (ofZ w64 r) ≡ pos 64 *ℤ b
-  spread-is = passed change-most tt ∙ clean
+  spread-is = read w64 change-most tt ∙ clean
 
 -- ---- the block
 

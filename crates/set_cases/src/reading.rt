@@ -1,6 +1,6 @@
 // Read a record. A refused record is document 01's example, 7 2 64 64 3 -2 0 0 0 0, with what its line names changed.
 ghost use Prim.Native.Nat.{_<_};
-use crate::lines;
+use crate::names;
 use particle::Particle;
 use particle::RECORD_LENGTH;
 use particle::Read;
@@ -20,7 +20,7 @@ pub fn show(p: Particle) {
 }
 
 pub fn case(name: &[u8], bytes: &[u8]) {
-    lines::begin(b"read", name);
+    names::begin(b"read", name);
     match particle::read_record(bytes) {
         Read::Found(p) => show(p),
         Read::Refused(refusal) => lines::refused(refusal),

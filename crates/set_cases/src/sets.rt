@@ -2,7 +2,7 @@
 ghost use mathlib.Core.Path.{_≡_};
 ghost use Prim.Native.Nat.{_+_, _*_, _≤_};
 ghost use lib.ListN.{length};
-use crate::lines;
+use crate::names;
 use crate::reading;
 use crate::writing;
 use particle::Particle;
@@ -45,9 +45,9 @@ fn total(nx: usize, ny: usize, records: &[u8]) {
 
 // A set with a name.
 fn case(name: &[u8], nx: usize, ny: usize, records: &[u8]) {
-    lines::begin(b"check", name);
+    names::begin(b"check", name);
     check(nx, ny, records);
-    lines::begin(b"totals", name);
+    names::begin(b"totals", name);
     total(nx, ny, records);
 }
 
@@ -271,7 +271,7 @@ fn most_records() {
         4096,
         writing::particle_of(7, 32, 64, 64, 3, -2, 0, 0, 0, 0),
     );
-    lines::begin(b"check", b"4096 of mass 32");
+    names::begin(b"check", b"4096 of mass 32");
     check(4, 4, &set);
 }
 

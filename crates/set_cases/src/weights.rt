@@ -1,5 +1,4 @@
 // Weights: both ends of the offsets, and past them.
-use crate::lines;
 use spline::Weighed;
 
 fn case(q: i64) {

@@ -1,5 +1,4 @@
 // Write a record. A line has the particle, the answer and what the buffer holds then; before the call every byte is 5a.
-use crate::lines;
 use crate::reading;
 use particle::Particle;
 use particle::RECORD_LENGTH;

@@ -3,7 +3,6 @@
 --     entry-set                    where none does, the set decides; set-done and set-refused say how
 --     entry-done, entry-refused    what a caller of `enter` learns
 --     run-ready                    what is accepted can be run
---     part-fits, part-length       and fits the arrays that are made for it
 --     run-accepted, run-refused    what the run then leaves
 --     step-is-run, step-sees       a step is a run of one step
 -- Assumes nothing.
@@ -11,10 +10,8 @@ use mathlib.Core.Path.{_≡_, refl, sym, ap, ap₂, _∙_}
 use mathlib.Core.Bool.{Bool, true, false, not}
 use mathlib.Core.List.{List}
 use Prim.Native.Nat.{ℕ, _*_, _^_, _<_, _≤_}
-use native.Mathlib.Omega.{arith}
 use lib.Dec.{ltb}
-use lib.ListN.{length, take}
-use lib.Seq.{length-take-le}
+use lib.ListN.{length}
 use lib.IntN.{ℤ}
 use lib.Signed.{mag}
 use mir.Syntax.{w64}
@@ -25,8 +22,7 @@ use Rattle.refusal.specs.Refused.{Answer, result, refused, refusedBy, refuseIf,
 use Rattle.refusal.specs.declared.Refusal.{Refusal}
 use Rattle.refusal.proofs.Answers.{not-result, not-refused, same-refusal, passed, went-on}
 use Rattle.particle.specs.declared.Particle.{Particle}
-use Rattle.particles.specs.declared.Totals.{Totals}
-use Rattle.particles.specs.Set.{validSize, validLength, recordsOf, particlesIn, totalsOf}
+use Rattle.particles.specs.Set.{validSize, validLength, recordsOf, particlesIn}
 use Rattle.particles.proofs.Checks.{good-entry}
 use Rattle.update.specs.Checks.{lengthsAre, bothWithin, done}
 use Rattle.update.proofs.Walk.{within-both}
@@ -149,21 +145,13 @@ module _ (s : Settings) (steps : ℕ) (records mass : List ℕ) (px py : List �
 
 -- ---- the set
 
-pub set-done : (a : Answer (List Particle)) {t : Totals} → result t ≡ andThen a (λ ps. result (totalsOf ps)) → done ≡ told a
+pub set-done : (a : Answer (List Particle)) {n : ℕ} → result n ≡ andThen a (λ ps. result (length ps)) → done ≡ told a
 set-done (result ps) e = refl
 set-done (refused n k) e = not-refused e
 
-pub set-refused : (a : Answer (List Particle)) {n k : ℕ} → refused n k ≡ andThen a (λ ps. result (totalsOf ps)) → refused n k ≡ told a
+pub set-refused : (a : Answer (List Particle)) {n k : ℕ} → refused n k ≡ andThen a (λ ps. result (length ps)) → refused n k ≡ told a
 set-refused (result ps) e = not-result e
 set-refused (refused m j) e = same-refusal e
-
--- ---- the arrays
-
-pub part-fits : {n : ℕ} (l : List ℤ) → n ≤ 4096 → length l ≡ 40960 → 10 * n ≤ length l
-part-fits l h e = omega arith
-
-pub part-length : (n : ℕ) (l : List ℤ) → n ≤ length l → length (take n l) ≡ n
-part-length n l h = length-take-le n l h
 
 -- ---- a step
 

@@ -7,12 +7,10 @@
 use mathlib.Core.Path.{_≡_, refl, sym, ap, ap₂, subst, _∙_}
 use mathlib.Core.List.{List, map}
 use Prim.Native.Nat.{ℕ, _*_, _≤_}
-use lib.Dec.{lit<}
 use lib.IntN.{ℤ, natAbs}
 use mir.Syntax.{w64}
 use mir.Val.{toZ, ofZ}
-use mir.Facts.{toZ-ofZ}
-use Rattle.arith.specs.Size.{bound-fits}
+use Rattle.arith.specs.Machine.{read-size}
 use Rattle.refusal.specs.Refused.{result}
 use Rattle.particle.specs.declared.Particle.{Particle}
 use Rattle.apic.specs.Step.{Axis, alongX, alongY}
@@ -28,19 +26,16 @@ use Rattle.simulation.specs.Step.{gravity, masses, momenta, updatedVeloc
 use Rattle.simulation.specs.Internal.{StepReady, StepLeaves, toldMoved}
 use Rattle.simulation.proofs.Refusals.{grid-limits, velocity-limits}
 
-back : {g : ℤ} → natAbs g ≤ 4096 → toZ w64 (ofZ w64 g) ≡ g
-back {g} h = toZ-ofZ (bound-fits {w = w64} {z = g} {n = 4096} (record { size = h }) (lit< tt))
-
 module _ {s : Settings} {source : List ℤ} {weights : List (List ℕ)} {mass : List ℕ} {px py target : List ℤ} (ready : StepReady s source weights mass px py target) where
   pub light : (a : Axis) → natAbs (gravity s a) ≤ 4096
   light alongX = ready .gravity-x
   light alongY = ready .gravity-y
 
   pub back-x : toZ w64 (ofZ w64 (s .gx)) ≡ s .gx
-  back-x = back (ready .gravity-x)
+  back-x = read-size w64 (s .gx) (ready .gravity-x) tt
 
   pub back-y : toZ w64 (ofZ w64 (s .gy)) ≡ s .gy
-  back-y = back (ready .gravity-y)
+  back-y = read-size w64 (s .gy) (ready .gravity-y) tt
 
   module _ {mass₁ : List ℕ} {px₁ py₁ : List ℤ} (scattered : Scattered (s .nx) (s .ny) (particlesOf source) mass₁ px₁ py₁) where
     mass-is : mass₁ ≡ masses s (particlesOf source)

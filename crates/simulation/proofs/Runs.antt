@@ -23,7 +23,7 @@ use Rattle.particles.specs.Set.{recordCount, recordsOf, particlesIn}
 use Rattle.particles.proofs.Checks.{entered, length-limits}
 use Rattle.unpacked.specs.Unpacked.{unpacked, particlesOf, UnpackedSet}
 use Rattle.unpacked.proofs.Laws.{count, length-unpacked, particlesOf-unpacked}
-use Rattle.packing.specs.Packing.{Accepted, Packable}
+use Rattle.packing.specs.Packing.{Packable}
 use Rattle.packing.proofs.Sets.{unpacked-set, unpacked-accepted}
 use Rattle.gather_core.specs.declared.Gathered.{Gathered}
 use Rattle.gather_core.specs.declared.Gathered.the-variants as gathered
@@ -188,14 +188,14 @@ module _ {s : Settings} {steps : ℕ} {weights : List (List ℕ)} {ps : List Par
 -- ---- from records to numbers and back
 
 module _ {s : Settings} {records mass : List ℕ} {px py : List ℤ} (ready : RunReady s records mass px py) where
-  pub run-accepted : Accepted records
-  run-accepted = record { nx = s .nx; ny = s .ny; particles = ready .particles; set = ready .set }
-
   bytes : length records ≡ 14 * recordCount records
   bytes = sym (length-limits (length records) (entered (s .nx) (s .ny) records (ready .set) .whole) .whole)
 
-  pub part-room : recordCount records ≤ 4096
-  part-room = length-limits (length records) (entered (s .nx) (s .ny) records (ready .set) .whole) .count
+  pub part-room : 10 * recordCount records ≤ 40960
+  part-room = room (recordCount records) (length-limits (length records) (entered (s .nx) (s .ny) records (ready .set) .whole) .count)
+    where
+      room : (n : ℕ) → n ≤ 4096 → 10 * n ≤ 40960
+      room n h = omega arith
 
   module _ {a : List ℤ} (e : a ≡ unpacked (particlesIn records)) where
     pub repeat-ready : {weights : List (List ℕ)} {b : List ℤ} → weights ≡ table → length b ≡ length a → StepReady s a weights mass px py b

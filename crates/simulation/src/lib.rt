@@ -2,10 +2,10 @@
 use gather_core::Gathered;
 use packing::NUMBERS;
 use particle::RECORD_LENGTH;
-use particles::Totalled;
+use particles::Checked;
 use refusal::Refusal;
 ghost use mathlib.Core.Path.{_≡_};
-ghost use Prim.Native.Nat.{_*_, _/_};
+ghost use Prim.Native.Nat.{_*_, _/_, _≤_};
 ghost use lib.ListN.{length};
 ghost use Rattle.refusal.specs.Refused.{andThen};
 ghost use Rattle.particles.specs.Set.{recordCount, particlesIn};
@@ -15,6 +15,16 @@ ghost use Rattle.update.specs.Checks.{done};
 ghost use Rattle.simulation.specs.Step.{Sees, gridsOf, toldStepped, stepAfter};
 ghost use Rattle.simulation.specs.Run.{toldRan, runFrom, runEntry, runAfter};
 ghost use Rattle.simulation.specs.Internal.{StepReady, StepLeaves, Turns, Repeats, RunReady, seen, current, other, recordsAfter, completedBy};
+
+// A small set, 64 particles: its length in bytes, and how many numbers it has.
+const SMALL_LENGTH: usize = 896;
+
+const SMALL_NUMBERS: usize = 640;
+
+// A middle one, 512 particles: the same.
+const MIDDLE_LENGTH: usize = 7168;
+
+const MIDDLE_NUMBERS: usize = 5120;
 
 // How many numbers the largest set has.
 const MOST_NUMBERS: usize = 40960;
@@ -152,7 +162,7 @@ fn run_numbers(
     ran
 }
 
-// The same with the first parts of two arrays that have room for any set. `run_set` calls it.
+// The same with the first parts of two arrays that have room for the set. `run_small`, `run_middle` and `run_large` call it.
 fn run_part(
     settings: Settings,
     steps: usize,
@@ -163,7 +173,7 @@ fn run_part(
     a: &mut [i64],
     b: &mut [i64],
 ) -> Ran
-    requires { ⌜ RunReady settings (now records) (now mass) (now px) (now py) × (length (now a) ≡ 40960) × (length (now b) ≡ 40960) ⌝ }
+    requires { ⌜ RunReady settings (now records) (now mass) (now px) (now py) × (10 * recordCount (now records) ≤ length (now a)) × (10 * recordCount (now records) ≤ length (now b)) ⌝ }
     ensures { λ r. ⌜ seen (toldRan r) (now (records .exit)) (gridsOf (now (mass .exit)) (now (px .exit)) (now (py .exit))) ≡ runFrom settings steps (now (records .entry)) (particlesIn (now (records .entry))) (gridsOf (now (mass .entry)) (now (px .entry)) (now (py .entry))) ⌝ }
 {
     let size = NUMBERS * (records.len() / RECORD_LENGTH);
@@ -179,8 +189,42 @@ fn run_part(
     )
 }
 
-// The same with arrays of its own. `run` calls it.
-fn run_set(
+// The same with arrays of its own, for a small set. `run_set` calls it.
+fn run_small(
+    settings: Settings,
+    steps: usize,
+    records: &mut [u8],
+    mass: &mut [u64],
+    px: &mut [i64],
+    py: &mut [i64],
+) -> Ran
+    requires { ⌜ RunReady settings (now records) (now mass) (now px) (now py) × (length (now records) ≤ 896) ⌝ }
+    ensures { λ r. ⌜ seen (toldRan r) (now (records .exit)) (gridsOf (now (mass .exit)) (now (px .exit)) (now (py .exit))) ≡ runFrom settings steps (now (records .entry)) (particlesIn (now (records .entry))) (gridsOf (now (mass .entry)) (now (px .entry)) (now (py .entry))) ⌝ }
+{
+    let mut a = [0i64; SMALL_NUMBERS];
+    let mut b = [0i64; SMALL_NUMBERS];
+    run_part(settings, steps, records, mass, px, py, &mut a, &mut b)
+}
+
+// The same for a middle one. `run_set` calls it.
+fn run_middle(
+    settings: Settings,
+    steps: usize,
+    records: &mut [u8],
+    mass: &mut [u64],
+    px: &mut [i64],
+    py: &mut [i64],
+) -> Ran
+    requires { ⌜ RunReady settings (now records) (now mass) (now px) (now py) × (length (now records) ≤ 7168) ⌝ }
+    ensures { λ r. ⌜ seen (toldRan r) (now (records .exit)) (gridsOf (now (mass .exit)) (now (px .exit)) (now (py .exit))) ≡ runFrom settings steps (now (records .entry)) (particlesIn (now (records .entry))) (gridsOf (now (mass .entry)) (now (px .entry)) (now (py .entry))) ⌝ }
+{
+    let mut a = [0i64; MIDDLE_NUMBERS];
+    let mut b = [0i64; MIDDLE_NUMBERS];
+    run_part(settings, steps, records, mass, px, py, &mut a, &mut b)
+}
+
+// The same for any set. `run_set` calls it.
+fn run_large(
     settings: Settings,
     steps: usize,
     records: &mut [u8],
@@ -194,6 +238,27 @@ fn run_set(
     let mut a = [0i64; MOST_NUMBERS];
     let mut b = [0i64; MOST_NUMBERS];
     run_part(settings, steps, records, mass, px, py, &mut a, &mut b)
+}
+
+// The same with arrays by the set's size, since arrays are cleared at each call. `run` calls it.
+fn run_set(
+    settings: Settings,
+    steps: usize,
+    records: &mut [u8],
+    mass: &mut [u64],
+    px: &mut [i64],
+    py: &mut [i64],
+) -> Ran
+    requires { ⌜ RunReady settings (now records) (now mass) (now px) (now py) ⌝ }
+    ensures { λ r. ⌜ seen (toldRan r) (now (records .exit)) (gridsOf (now (mass .exit)) (now (px .exit)) (now (py .exit))) ≡ runFrom settings steps (now (records .entry)) (particlesIn (now (records .entry))) (gridsOf (now (mass .entry)) (now (px .entry)) (now (py .entry))) ⌝ }
+{
+    if records.len() <= SMALL_LENGTH {
+        return run_small(settings, steps, records, mass, px, py);
+    }
+    if records.len() <= MIDDLE_LENGTH {
+        return run_middle(settings, steps, records, mass, px, py);
+    }
+    run_large(settings, steps, records, mass, px, py)
 }
 
 // The checks that a run begins with, in their order. `run` calls it.
@@ -224,9 +289,9 @@ fn enter(
     if MOST_STEPS < steps {
         return Stepped::Refused(Refusal::Steps);
     }
-    match particles::walk(nx, ny, records, 0, records.len() / RECORD_LENGTH) {
-        Totalled::Sums(_) => Stepped::Done,
-        Totalled::Refused(refusal) => Stepped::Refused(refusal),
+    match particles::check(nx, ny, records, 0, records.len() / RECORD_LENGTH) {
+        Checked::Records(_) => Stepped::Done,
+        Checked::Refused(refusal) => Stepped::Refused(refusal),
     }
 }
 

@@ -1,4 +1,4 @@
--- Document 01, operation "Weights": what it answers for any offset, and the table that it answers from.
+-- Document 01, operation "Weights": what it answers for any offset, and the same as a table.
 -- Assumes nothing.
 use mathlib.Core.Bool.{Bool, not, _&&_}
 use mathlib.Core.List.{List, [], _∷_, map}

@@ -93,7 +93,7 @@ pub fn weight_table() -> [[u16; 3]; 64]
     WEIGHTS
 }
 
-// The row of an offset, counted from −32, in the table that the caller lends. The transfers and `weights` call it.
+// The row of an offset, counted from −32, in the table that the caller lends. The transfers call it.
 pub fn row(weights: &[[u16; 3]; 64], k: usize) -> AxisWeights
     requires { ⌜ k < 64 ⌝ }
     ensures { λ r. ⌜ r ≡ rowOf (getD (now (weights .entry)) k []) ⌝ }
@@ -105,7 +105,8 @@ pub fn row(weights: &[[u16; 3]; 64], k: usize) -> AxisWeights
     }
 }
 
-// The weights of the three nodes around a particle at offset q from its nearest node.
+// The weights of the three nodes around a particle at offset q from its nearest node, by their formulas. It does not look
+// the table up: an index into a constant builds the whole table.
 pub fn weights(q: i64) -> Weighed
     ensures { λ r. ⌜ toldWeights r ≡ weightsAnswer q ⌝ }
 {
@@ -115,6 +116,9 @@ pub fn weights(q: i64) -> Weighed
     if q > 31 {
         return Weighed::Refused(Refusal::Position(0));
     }
-    let weights = weight_table();
-    Weighed::Weights(row(&weights, (q + 32) as usize))
+    Weighed::Weights(AxisWeights {
+        lower: ((32 - q) * (32 - q)) as u16,
+        nearest: (6144 - 2 * q * q) as u16,
+        upper: ((32 + q) * (32 + q)) as u16,
+    })
 }

@@ -2,21 +2,23 @@
 --     told-done, kept-refusal     an answer whose value is changed is done, or refused, as the answer is
 --     bad-size, bad-length, bad-lengths, by-set     the answer at entry, by its tests
 --     accepted                    what is known where it has a result
---     room                        the numbers of an accepted set fit an array of 40,960
+--     accepted-set, whole-records, set-length     and what of the records, one by one
 -- Assumes nothing.
-use mathlib.Core.Path.{_≡_, refl, ap, ap₂, _∙_}
+use mathlib.Core.Path.{_≡_, refl, sym, ap, ap₂, _∙_, subst}
 use mathlib.Core.Bool.{Bool, true, false, not}
 use mathlib.Core.List.{List}
-use Prim.Native.Nat.{ℕ, _*_, _/_, _≤_}
+use Prim.Native.Nat.{ℕ, _*_, _≤_}
 use native.Mathlib.Omega.{arith}
 use lib.ListN.{length}
-use lib.IntN.{ℤ}
 use borrow.Author.Tests.{not-false}
 use Rattle.refusal.specs.Refused.{Answer, result, refused, refuseIf, andThen}
 use Rattle.refusal.proofs.Answers.{not-refused, same-refusal, passed, went-on}
 use Rattle.particle.specs.declared.Particle.{Particle}
-use Rattle.particles.specs.Set.{validSize, validLength, recordCount, setOf, setAnswer}
+use Rattle.apic.specs.Limits.{SetLimits}
+use Rattle.particles.specs.Set.{validSize, validLength, recordCount, setOf, setAnswer, particlesIn}
+use Rattle.particles.proofs.Accepted.{accepted-limits}
 use Rattle.particles.proofs.Checks.{length-limits, good-entry, entered}
+use Rattle.packing.proofs.Sets.{particlesIn-accepted}
 use Rattle.update.specs.Checks.{done}
 use Rattle.transfer.specs.Transfer.{toldOf, entryAnswer}
 
@@ -55,8 +57,15 @@ module _ (nx ny : ℕ) (records : List ℕ) (lengths : Bool) where
       let c = passed (not lengths) 1 0 _ (b .1) in
       (not-false lengths (c .0), good-entry nx ny records (not-false (validSize nx ny) (a .0)) (not-false (validLength (length records)) (b .0)) ∙ c .1)
 
-pub room : (nx ny : ℕ) (records : List ℕ) (array : List ℤ) {ps : List Particle} → setAnswer nx ny records ≡ result ps → length array ≡ 40960 → 10 * (length records / 14) ≤ length array
-room nx ny records array e h = fits (length-limits (length records) (entered nx ny records e .whole) .count)
-  where
-    fits : length records / 14 ≤ 4096 → 10 * (length records / 14) ≤ length array
-    fits g = omega arith
+module _ (nx ny : ℕ) (records : List ℕ) {ps : List Particle} (e : setAnswer nx ny records ≡ result ps) where
+  pub accepted-set : SetLimits nx ny (particlesIn records)
+  accepted-set = subst (SetLimits nx ny) (sym (particlesIn-accepted nx ny records e)) (accepted-limits nx ny records e)
+
+  pub whole-records : 14 * recordCount records ≡ length records
+  whole-records = length-limits (length records) (entered nx ny records e .whole) .whole
+
+  pub set-length : length records ≤ 57344
+  set-length = most whole-records (length-limits (length records) (entered nx ny records e .whole) .count)
+    where
+      most : {n : ℕ} → 14 * n ≡ length records → n ≤ 4096 → length records ≤ 57344
+      most a b = omega arith

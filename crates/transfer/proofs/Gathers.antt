@@ -1,101 +1,61 @@
 -- Gather: from the accepted set to the moved records.
---     gatherable, packable, as-long     what the core and the packing ask
---     refused-moves, done-moves     what is left after the core's answer
+--     move-ready                    what the loop over the parts asks of an accepted set
+--     refused-moves, done-moves     what is left after its answer
 --     bad-entry, by-velocities      the checks before any particle moves, by their parts
 --     stopped, gather-set, moved-on     the operation, by those checks
 -- Assumes nothing.
 use mathlib.Core.Path.{_≡_, refl, sym, ap, _∙_, subst}
 use mathlib.Core.Bool.{Bool, true, false, _&&_}
 use mathlib.Core.List.{List, map}
-use Prim.Native.Nat.{ℕ, _*_, _/_}
-use native.Mathlib.Omega.{arith}
+use Prim.Native.Nat.{ℕ, _*_}
 use lib.Dec.{eqb}
-use lib.ListN.{length, length-map}
+use lib.ListN.{length}
 use lib.IntN.{ℤ}
 use borrow.Author.Tests.{eqb-true}
 use Rattle.refusal.specs.Refused.{Answer, result, refused, andThen}
 use Rattle.refusal.proofs.Answers.{went-on}
 use Rattle.spline.specs.Answers.{table}
 use Rattle.particle.specs.declared.Particle.{Particle}
-use Rattle.particles.specs.Set.{recordCount, recordsOf, particlesIn}
-use Rattle.particles.proofs.Checks.{length-limits, entered}
-use Rattle.unpacked.specs.Unpacked.{unpacked, particlesOf, UnpackedSet}
-use Rattle.unpacked.proofs.Laws.{length-unpacked, particlesOf-unpacked}
-use Rattle.packing.specs.Packing.{Packable}
-use Rattle.packing.proofs.Sets.{count-in, unpacked-accepted, particlesIn-accepted}
+use Rattle.particles.specs.Set.{particlesIn}
+use Rattle.packing.proofs.Sets.{particlesIn-accepted}
 use Rattle.gather_core.specs.declared.Gathered.{Gathered}
-use Rattle.gather_core.specs.Gather.{gathered, moveChecks, toldGathered, Gatherable, Gathers}
+use Rattle.gather_core.specs.Gather.{gathered, toldGathered}
 use Rattle.gather_core.proofs.Checks.{follow, checks-follow}
-use Rattle.gather_core.proofs.Kept.{target-set}
 use Rattle.update.specs.Checks.{lengthsAre, done}
 use Rattle.update.proofs.Walk.{and-true}
 use Rattle.transfer.specs.Transfer.{toldOf, entryAnswer, velocityChecks, checkedSet, moveAnswer, gatherAnswer, Moves}
-use Rattle.transfer.specs.Internal.{GatherSet}
-use Rattle.transfer.proofs.Entry.{accepted}
+use Rattle.transfer.specs.Internal.{GatherSet, MoveReady, MovedFrom}
+use Rattle.transfer.proofs.Entry.{accepted, accepted-set}
 use Rattle.transfer.proofs.Velocities.{node-velocities}
 
 refused-is : {a : Answer (List Particle)} (records : List ℕ) {n k : ℕ} → a ≡ refused n k → Moves a records (refused n k) records
 refused-is records {n} {k} e = subst (λ a. Moves a records (refused n k) records) (sym e) (record { answer = refl; records-are = refl })
 
--- ---- the accepted set, by the core
+-- ---- the accepted set, by its parts
 
-numbers-in : (records : List ℕ) → length (unpacked (particlesIn records)) ≡ 10 * recordCount records
-numbers-in records = length-unpacked (particlesIn records) ∙ ap (λ n. 10 * n) (count-in records)
+pub move-ready : {nx ny : ℕ} {records : List ℕ} {weights : List (List ℕ)} {ux uy : List ℤ} → GatherSet nx ny records ux uy → weights ≡ table → MoveReady nx ny records weights ux uy
+move-ready {nx} {ny} {records} s t =
+    record {
+      limits = accepted-set nx ny records (s .set);
+      is-table = t;
+      x-velocities = s .x-velocities;
+      y-velocities = s .y-velocities;
+    }
 
-module _ {nx ny : ℕ} {records : List ℕ} {ux uy source : List ℤ} (s : GatherSet nx ny records ux uy) (e : source ≡ unpacked (particlesIn records)) where
-  source-set : UnpackedSet nx ny source
-  source-set = subst (UnpackedSet nx ny) (sym e) (unpacked-accepted nx ny records (s .set))
+module _ {nx ny : ℕ} {records : List ℕ} {ux uy : List ℤ} {moved : List ℕ} {r : Gathered} (m : MovedFrom 0 nx ny records ux uy moved r) where
+  told : moveAnswer nx ny ux uy (particlesIn records) ≡ follow (toldGathered r) (result (map (gathered nx ny ux uy) (particlesIn records)))
+  told =
+      checks-follow nx ny (gathered nx ny ux uy) 0 (particlesIn records) (result (map (gathered nx ny ux uy) (particlesIn records)))
+      ∙ ap (λ a. follow a (result (map (gathered nx ny ux uy) (particlesIn records)))) (sym (m .answer))
 
-  source-is : particlesOf source ≡ particlesIn records
-  source-is = ap particlesOf e ∙ particlesOf-unpacked (particlesIn records)
+  pub refused-moves : {n k : ℕ} → toldGathered r ≡ refused n k → Moves (moveAnswer nx ny ux uy (particlesIn records)) records (refused n k) records
+  refused-moves h = refused-is records (told ∙ ap (λ a. follow a (result (map (gathered nx ny ux uy) (particlesIn records)))) h)
 
-  pub gatherable : {weights : List (List ℕ)} {target : List ℤ} → weights ≡ table → length target ≡ 10 * recordCount records → Gatherable nx ny source weights ux uy target
-  gatherable t h =
-      record {
-        particles = source-set;
-        weights-are = t;
-        x-velocities = s .x-velocities;
-        y-velocities = s .y-velocities;
-        room = h ∙ sym (ap length e ∙ numbers-in records);
-      }
-
-  module _ {target : List ℤ} {r : Gathered} (g : Gathers nx ny source ux uy target r) where
-    told : moveAnswer nx ny ux uy (particlesIn records) ≡ follow (toldGathered r) (result (map (gathered nx ny ux uy) (particlesIn records)))
-    told =
-        checks-follow nx ny (gathered nx ny ux uy) 0 (particlesIn records) (result (map (gathered nx ny ux uy) (particlesIn records)))
-        ∙ ap (λ a. follow a (result (map (gathered nx ny ux uy) (particlesIn records))))
-        (ap (λ ps. moveChecks nx ny (gathered nx ny ux uy) 0 ps (result tt)) (sym source-is) ∙ sym (g .answer))
-
-    pub refused-moves : {n k : ℕ} → toldGathered r ≡ refused n k → Moves (moveAnswer nx ny ux uy (particlesIn records)) records (refused n k) records
-    refused-moves h = refused-is records (told ∙ ap (λ a. follow a (result (map (gathered nx ny ux uy) (particlesIn records)))) h)
-
-    module _ (h : toldGathered r ≡ done) where
-      pub packable : Packable target
-      packable = record { nx = nx; ny = ny; set = target-set g h source-set }
-
-      target-is : target ≡ unpacked (map (gathered nx ny ux uy) (particlesIn records))
-      target-is = g .particles h ∙ ap (λ ps. unpacked (map (gathered nx ny ux uy) ps)) source-is
-
-      pub as-long : length records ≡ 14 * (length target / 10)
-      as-long = count (length-limits (length records) (entered nx ny records (s .set) .whole) .whole) numbers
-        where
-          numbers : length target ≡ 10 * recordCount records
-          numbers =
-              ap length target-is
-              ∙ length-unpacked (map (gathered nx ny ux uy) (particlesIn records))
-              ∙ ap (λ n. 10 * n) (length-map (particlesIn records) (gathered nx ny ux uy) ∙ count-in records)
-
-          count : 14 * (length records / 14) ≡ length records → length target ≡ 10 * (length records / 14) → length records ≡ 14 * (length target / 10)
-          count a b = omega arith
-
-      pub done-moves : {records′ : List ℕ} → records′ ≡ recordsOf (particlesOf target) → Moves (moveAnswer nx ny ux uy (particlesIn records)) records done records′
-      done-moves {records′} w =
-          subst (λ a. Moves a records done records′)
-          (sym (told ∙ ap (λ a. follow a (result (map (gathered nx ny ux uy) (particlesIn records)))) h))
-          (record {
-            answer = refl;
-            records-are = w ∙ ap recordsOf (ap particlesOf target-is ∙ particlesOf-unpacked (map (gathered nx ny ux uy) (particlesIn records)));
-          })
+  pub done-moves : {records′ : List ℕ} → toldGathered r ≡ done → records′ ≡ moved → Moves (moveAnswer nx ny ux uy (particlesIn records)) records done records′
+  done-moves {records′} h w =
+      subst (λ a. Moves a records done records′)
+      (sym (told ∙ ap (λ a. follow a (result (map (gathered nx ny ux uy) (particlesIn records)))) h))
+      (record { answer = refl; records-are = w ∙ m .records-are h })
 
 -- ---- the checks before any particle moves
 

@@ -1,4 +1,6 @@
 pub mod Entry
+pub mod Moving
+pub mod Parts
 pub mod Scatters
 pub mod Velocities
 pub mod Gathers

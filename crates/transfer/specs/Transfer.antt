@@ -14,12 +14,18 @@ use Rattle.particles.specs.Set.{validSize, validLength, recordCount, setOf, rec
 use Rattle.update.specs.Checks.{lengthsAre, bothWithin, done, forEach}
 use Rattle.scatter_particle.specs.Added.{massAt, momentumAt}
 use Rattle.gather_core.specs.Gather.{gathered, moveChecks}
-use Rattle.transfer.specs.declared.Transferred.{Transferred}
-use Rattle.transfer.specs.declared.Transferred.the-variants.{Done, Refused}
+use Rattle.transfer.specs.declared.Scattered.{Scattered}
+use Rattle.transfer.specs.declared.Scattered.the-variants as scattered
+use Rattle.transfer.specs.declared.Moved.{Moved}
+use Rattle.transfer.specs.declared.Moved.the-variants as moved
 
-abbrev pub toldTransferred : Transferred → Answer Unit
-toldTransferred Done = done
-toldTransferred (Refused e) = refusedBy e
+abbrev pub toldScattered : Scattered → Answer Unit
+toldScattered scattered.Done = done
+toldScattered (scattered.Refused e) = refusedBy e
+
+abbrev pub toldMoved : Moved → Answer Unit
+toldMoved moved.Done = done
+toldMoved (moved.Refused e) = refusedBy e
 
 -- an answer without its value
 abbrev pub toldOf : {A : Type 0} → Answer A → Answer Unit

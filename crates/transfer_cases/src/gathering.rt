@@ -1,5 +1,5 @@
 // Gather: its refusals, halves of both signs, and that a refused call leaves every record.
-use crate::lines;
+use transfer::Moved;
 
 const LEAST: i64 = -9223372036854775808;
 
@@ -7,10 +7,18 @@ const LEAST: i64 = -9223372036854775808;
 const PAIR: [u8; 28] =
     *b"\x00\x01\x00\x41\x00\x10\x00\x00\x00\x00\x00\x00\x00\x00\x00\x02\x00\x41\x84\x10\x00\x00\x00\x00\x00\x00\x00\x00";
 
-fn show(nx: usize, ny: usize, records: &mut [u8], ux: &[i64], uy: &[i64]) {
-    let answer = transfer::gather(nx, ny, records, ux, uy);
-    lines::answer(answer);
+fn gathered(answer: Moved) {
+    match answer {
+        Moved::Done => lines::word(b"done"),
+        Moved::Refused(refusal) => lines::refused(refusal),
+    }
+    lines::end();
+}
+
+pub fn show(nx: usize, ny: usize, records: &mut [u8], ux: &[i64], uy: &[i64]) {
+    gathered(transfer::gather(nx, ny, records, ux, uy));
     lines::bytes(records);
+    lines::end();
 }
 
 // Every node has the velocity (a, b), but for nodes 5 and 9, which have (c, d) and (e, 0).

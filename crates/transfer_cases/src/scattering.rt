@@ -1,7 +1,7 @@
 // Scatter: its refusals, on grids that hold 7, 8 and -8, and the nodes of weight 0.
-use crate::lines;
 use particle::Particle;
 use particle::RECORD_LENGTH;
+use transfer::Scattered;
 
 // A particle at (x, y), its B entries all b.
 pub fn particle_of(
@@ -27,6 +27,22 @@ pub fn particle_of(
     }
 }
 
+fn scattered(answer: Scattered) {
+    match answer {
+        Scattered::Done => lines::word(b"done"),
+        Scattered::Refused(refusal) => lines::refused(refusal),
+    }
+    lines::end();
+}
+
+// The momenta or velocities on both axes.
+pub fn axes(x: &[i64], y: &[i64]) {
+    lines::grid(x);
+    lines::end();
+    lines::grid(y);
+    lines::end();
+}
+
 pub fn show(
     nx: usize,
     ny: usize,
@@ -35,11 +51,10 @@ pub fn show(
     px: &mut [i64],
     py: &mut [i64],
 ) {
-    let answer = transfer::scatter(nx, ny, records, mass, px, py);
-    lines::answer(answer);
+    scattered(transfer::scatter(nx, ny, records, mass, px, py));
     lines::masses(mass);
-    lines::grid(px);
-    lines::grid(py);
+    lines::end();
+    axes(px, py);
 }
 
 fn onto(nx: usize, ny: usize, records: &[u8]) {

@@ -2,26 +2,28 @@
 ghost use mathlib.Core.Path.{_≡_};
 ghost use Prim.Native.Nat.{_+_, _*_, _≤_};
 ghost use lib.ListN.{length};
-use crate::lines;
+use crate::gathering;
 use crate::scattering;
 use particle::Particle;
 use particle::RECORD_LENGTH;
 use update::Updated;
+
+fn updated(answer: Updated) {
+    match answer {
+        Updated::Done => lines::word(b"done"),
+        Updated::Refused(refusal) => lines::refused(refusal),
+    }
+    lines::end();
+}
 
 fn step(records: &mut [u8], gx: i64, gy: i64) {
     let mut mass = [7u64; 16];
     let mut px = [8i64; 16];
     let mut py = [-8i64; 16];
     scattering::show(4, 4, records, &mut mass, &mut px, &mut py);
-    match update::update(4, 4, gx, gy, &mass, &mut px, &mut py) {
-        Updated::Done => lines::done(),
-        Updated::Refused(refusal) => lines::refused(refusal),
-    }
-    lines::grid(&px);
-    lines::grid(&py);
-    let answer = transfer::gather(4, 4, records, &px, &py);
-    lines::answer(answer);
-    lines::bytes(records);
+    updated(update::update(4, 4, gx, gy, &mass, &mut px, &mut py));
+    scattering::axes(&px, &py);
+    gathering::show(4, 4, records, &px, &py);
 }
 
 fn alone(p: Particle, gx: i64, gy: i64) {

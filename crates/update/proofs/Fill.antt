@@ -6,7 +6,7 @@ use Prim.Native.Nat.{ℕ, suc, _+_, _<_}
 use native.Mathlib.Nat.{zero-add}
 use native.Mathlib.Numerals.{add-one}
 use lib.ListN.{length, getD, set, drop, length-map}
-use lib.Seq.{drop-cons, drop-length, set-at, getD-at}
+use lib.Seq.{drop-cons, drop-length, set-at, getD-at, set-getD}
 use Rattle.arith.specs.Sums.{upTo, from, from-append, length-from}
 
 module _ {A : Type 0} (f : ℕ → A) where
@@ -43,3 +43,7 @@ module _ {A : Type 0} (f : ℕ → A) where
 
         next : map f (upTo (k + 1)) ++ drop (k + 1) l ≡ map f (upTo k) ++ f k ∷ drop (suc k) l
         next = ap₂ _++_ one-more (ap (λ m. drop m l) (add-one k)) ∙ append-assoc (map f (upTo k)) (f k ∷ []) (drop (suc k) l)
+
+    -- an element that is already what would be stored
+    pub filled-kept : f k ≡ getD l k d → filled k l ≡ filled (k + 1) l
+    filled-kept e = sym (set-getD (filled k l) k d) ∙ ap (λ a. set (filled k l) k a) (filled-read ∙ sym e) ∙ filled-more

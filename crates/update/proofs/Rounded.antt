@@ -2,7 +2,7 @@
 use mathlib.Core.Path.{_≡_, refl, sym, ap, _∙_, subst}
 use mathlib.Core.Bool.{true, false, true≢false}
 use mathlib.Core.List.{[]}
-use Prim.Native.Nat.{ℕ, zero, suc, _+_, _*_, _-_, _/_, _^_, _≤_, _<_}
+use Prim.Native.Nat.{ℕ, suc, _+_, _*_, _/_, _^_, _≤_, _<_}
 use native.Mathlib.Omega.{arith}
 use lib.Dec.{T}
 use lib.IntN.{ℤ, pos, negsuc, negℤ, natAbs, _-ℤ_, +ℤ-idl}
@@ -12,7 +12,8 @@ use mir.Val.{Fits, SFits, toZ, ofZ}
 use mir.Facts.{toZ-ofZ, toZ-pos, fits-natAbs}
 use borrow.Author.Tests.{le-ltb}
 use Rattle.arith.specs.Order.{linear, reading, nothing}
-use Rattle.arith.specs.Size.{natAbs-neg}
+use Rattle.arith.specs.Size.{natAbs-neg, sizes, fits}
+use Rattle.arith.specs.Machine.{same-fits, same-read}
 use Rattle.arith.specs.Rounding.{nearest, halvesAway, nearest-half, nearest-half-neg}
 
 -- the divisor as twice a half
@@ -53,11 +54,14 @@ module _ (z : ℤ) (h : SFits w64 z) (test : ltZ (toZ w64 (ofZ w64 z)) (pos 0) �
       minus-one : (a : ℕ) → negsuc 0 -ℤ negsuc a ≡ pos a
       minus-one a = linear [] nothing (search reading depth 30) (omega arith)
 
+  clean : SFits w64 (pos (sign .less))
+  clean = record { sfits = sign .small }
+
   pub less-fits : SFits w64 (negsuc 0 -ℤ toZ w64 (ofZ w64 z))
-  less-fits = subst (SFits w64) (sym less-is) (record { sfits = sign .small })
+  less-fits = same-fits less-is clean
 
   less-held : toZ w64 (ofZ w64 (negsuc 0 -ℤ toZ w64 (ofZ w64 z))) ≡ pos (sign .less)
-  less-held = toZ-ofZ less-fits ∙ less-is
+  less-held = same-read less-is clean
 
   pub less-size : natAbs (toZ w64 (ofZ w64 (negsuc 0 -ℤ toZ w64 (ofZ w64 z)))) ≡ sign .less
   less-size = ap natAbs less-held
@@ -81,15 +85,14 @@ module _ (r : ℕ) (small : r ≤ 2 ^ 62) where
   negated-is : pos 0 -ℤ toZ w64 r ≡ negℤ (pos r)
   negated-is = +ℤ-idl (negℤ (toZ w64 r)) ∙ ap negℤ held
 
+  negative-fits : SFits w64 (negℤ (pos r))
+  negative-fits = fits (search sizes depth 20) tt
+
   pub negated-fits : SFits w64 (pos 0 -ℤ toZ w64 r)
-  negated-fits = subst (SFits w64) (sym negated-is) (fits r small)
-    where
-      fits : (r : ℕ) → r ≤ 2 ^ 62 → SFits w64 (negℤ (pos r))
-      fits zero h = record { sfits = omega arith }
-      fits (suc r) h = record { sfits = omega arith }
+  negated-fits = same-fits negated-is negative-fits
 
   pub negated : toZ w64 (ofZ w64 (pos 0 -ℤ toZ w64 r)) ≡ negℤ (pos r)
-  negated = toZ-ofZ negated-fits ∙ negated-is
+  negated = same-read negated-is negative-fits
 
   pub negated-size : natAbs (negℤ (pos r)) ≤ 2 ^ 62
   negated-size = rw (natAbs-neg (pos r)) small

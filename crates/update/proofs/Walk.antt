@@ -40,7 +40,7 @@ within-both n x y e =
 pub both-within : (n : ℕ) (x y : ℤ) → natAbs x ≤ n → natAbs y ≤ n → bothWithin n x y ≡ true
 both-within n x y h k = ap₂ _&&_ (le-leb (natAbs x) n h) (le-leb (natAbs y) n k)
 
-zero-size : (z : ℤ) → natAbs z ≡ 0 → z ≡ pos 0
+pub zero-size : (z : ℤ) → natAbs z ≡ 0 → z ≡ pos 0
 zero-size (pos n) e = ap pos e
 zero-size (negsuc n) e = absurd (never n e)
   where

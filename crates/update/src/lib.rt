@@ -3,8 +3,8 @@ pub mod checks;
 mod node;
 
 ghost use mathlib.Core.Path.{_≡_};
-ghost use Prim.Native.Nat.{ℕ, _<_, _≤_, _^_};
-ghost use lib.ListN.{length, getD};
+ghost use Prim.Native.Nat.{_≤_};
+ghost use lib.ListN.{length};
 ghost use lib.IntN.{natAbs};
 ghost use Rattle.update.specs.Update.{toldUpdate, checkNodes, velocities, GridLimits, UpdateIs};
 use refusal::Refusal;
@@ -22,29 +22,15 @@ fn check_nodes(count: usize, gx: i64, gy: i64, mass: &[u64], px: &[i64], py: &[i
 {
     let mut k = 0;
     while k < count {
-        let checked = node::check(k, gx, gy, mass[k], px[k], py[k]);
-        match checked {
-            Updated::Done => {}
-            Updated::Refused(refusal) => return Updated::Refused(refusal),
+        if !node::is_calm(mass[k], px[k], py[k]) {
+            match node::check(k, gx, gy, mass[k], px[k], py[k]) {
+                Updated::Done => {}
+                Updated::Refused(refusal) => return Updated::Refused(refusal),
+            }
         }
         k += 1;
     }
     Updated::Done
-}
-
-// One axis of every node. `update_all` calls it for x and for y.
-fn update_axis(count: usize, gravity: i64, mass: &[u64], momentum: &mut [i64])
-    requires { ⌜ (length (now mass) ≡ count) × (length (now momentum) ≡ count) ⌝ }
-    requires { ⌜ natAbs gravity ≤ 4096 ⌝ }
-    requires { ⌜ ((k : ℕ) → k < count → getD (now mass) k 0 ≤ 2 ^ 43) ⌝ }
-    ensures { λ _. ⌜ now (momentum .exit) ≡ velocities count gravity (now (mass .entry)) (now (momentum .entry)) ⌝ }
-{
-    let mut k = 0;
-    while k < count {
-        let velocity = node::velocity(gravity, mass[k], momentum[k]);
-        momentum[k] = velocity;
-        k += 1;
-    }
 }
 
 // Both axes of every node, where none breaks a limit. `update` and the step call it.
@@ -52,8 +38,16 @@ pub fn update_all(count: usize, gx: i64, gy: i64, mass: &[u64], px: &mut [i64], 
     requires { ⌜ GridLimits count gx gy (now mass) (now px) (now py) ⌝ }
     ensures { λ _. ⌜ (now (px .exit) ≡ velocities count gx (now (mass .entry)) (now (px .entry))) × (now (py .exit) ≡ velocities count gy (now (mass .entry)) (now (py .entry))) ⌝ }
 {
-    update_axis(count, gx, mass, px);
-    update_axis(count, gy, mass, py);
+    let mut k = 0;
+    while k < count {
+        let m = mass[k];
+        // Without mass there is no momentum, and 0 is the velocity too.
+        if m != 0 {
+            px[k] = node::velocity(gx, m, px[k]);
+            py[k] = node::velocity(gy, m, py[k]);
+        }
+        k += 1;
+    }
 }
 
 // Velocity takes the momentum's place in px and py: momentum/(4·mass), rounded, plus gravity, and 0 at a node without mass.

@@ -4,6 +4,7 @@ ghost use Prim.Native.Nat.{_+_, _*_, _/_, _<_, _≤_, _^_};
 ghost use lib.IntN.{natAbs};
 ghost use Rattle.arith.specs.Rounding.{nearest, halvesAway};
 ghost use Rattle.update.specs.Update.{velocityOf, breaksMass, checkNode, toldUpdate};
+ghost use Rattle.update.specs.Internal.{isCalm};
 use crate::Updated;
 use crate::checks;
 use refusal::Refusal;
@@ -11,6 +12,9 @@ use refusal::Refusal;
 const MOST_MASS: u64 = 0x800_0000_0000;
 
 const MOST_VELOCITY: i64 = 131072;
+
+// 4·(131072 − 4096): a momentum of at most so much per unit of mass keeps the velocity's limit under every gravity.
+const CALM_MOMENTUM: i64 = 507904;
 
 // size/(4·mass) to nearest, halves up. `rounded` calls it.
 fn rounded_size(size: u64, mass: u64) -> u64
@@ -32,7 +36,7 @@ fn rounded(momentum: i64, mass: u64) -> i64
     }
 }
 
-// A node's velocity on one axis. `check` and `update_axis` call it.
+// A node's velocity on one axis. `check` and `update_all` call it.
 pub fn velocity(gravity: i64, mass: u64, momentum: i64) -> i64
     requires { ⌜ (natAbs gravity ≤ 4096) × (mass ≤ 2 ^ 43) ⌝ }
     ensures { λ r. ⌜ r ≡ velocityOf gravity mass momentum ⌝ }
@@ -70,4 +74,25 @@ pub fn check(k: usize, gx: i64, gy: i64, mass: u64, px: i64, py: i64) -> Updated
         return Updated::Refused(Refusal::NodeVelocity(k));
     }
     Updated::Done
+}
+
+// Whether a node surely breaks no limit, without a division: its mass is in range, and neither momentum is more than 126,976
+// velocity units' worth. `check_nodes` calls it.
+pub fn is_calm(mass: u64, px: i64, py: i64) -> bool
+    ensures { λ r. ⌜ r ≡ isCalm mass px py ⌝ }
+{
+    if mass > MOST_MASS {
+        return false;
+    }
+    let most = mass as i64 * CALM_MOMENTUM;
+    if px < -most {
+        return false;
+    }
+    if most < px {
+        return false;
+    }
+    if py < -most {
+        return false;
+    }
+    py <= most
 }

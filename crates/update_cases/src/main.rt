@@ -9,63 +9,20 @@ const LEAST: i64 = -9223372036854775808;
 
 const MOST: i64 = 9223372036854775807;
 
-fn write_digits(number: u64) {
-    if 9 < number {
-        write_digits(number / 10);
-    }
-    let digit = [(number % 10) as u8 + b'0'];
-    io::write_all(1, &digit);
-}
-
-fn write_number(number: i64) {
-    if number < 0 {
-        io::write_all(1, b"-");
-        write_digits((-1 - number) as u64 + 1);
-    } else {
-        write_digits(number as u64);
-    }
-}
-
-fn write_space() {
-    io::write_all(1, b" ");
-}
-
-fn end_line() {
-    io::write_all(1, b"\n");
-}
-
-fn write_grid(grid: &[i64]) {
-    let mut k = 0;
-    while k < grid.len() {
-        if 0 < k {
-            write_space();
-        }
-        write_number(grid[k]);
-        k += 1;
-    }
-    end_line();
-}
-
-fn write_answer(answer: Updated) {
+fn updated(answer: Updated) {
     match answer {
-        Updated::Done => {
-            io::write_all(1, b"done\n");
-        }
-        Updated::Refused(refusal) => {
-            io::write_all(1, b"refused ");
-            write_digits(refusal::number_of(refusal) as u64);
-            io::write_all(1, b" at ");
-            write_digits(refusal::place_of(refusal) as u64);
-            end_line();
-        }
+        Updated::Done => lines::word(b"done"),
+        Updated::Refused(refusal) => lines::refused(refusal),
     }
+    lines::end();
 }
 
 fn show(nx: usize, ny: usize, gx: i64, gy: i64, mass: &[u64], px: &mut [i64], py: &mut [i64]) {
-    let answer = update::update(nx, ny, gx, gy, mass, px, py);
-    write_answer(answer);
-    write_grid(px);
-    write_grid(py);
+    updated(update::update(nx, ny, gx, gy, mass, px, py));
+    lines::grid(px);
+    lines::end();
+    lines::grid(py);
+    lines::end();
 }
 
 // Nodes of mass 1 with momenta 8 and -8, but for node 5.

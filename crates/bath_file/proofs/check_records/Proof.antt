@@ -1,10 +1,10 @@
--- `check_records` meets its contract: the length, and then the walk over the set. Assumes nothing.
+-- `check_records` meets its contract: the length, and then the set. Assumes nothing.
 use borrow.Author.Needs.{needs}
 use native.Mathlib.Omega.{arith}
 use mathlib.Core.Path.{sym, ap, _∙_}
 use denote.Ref.{now}
 use Rattle.refusal.specs.Refused.{result}
-use Rattle.particles.specs.Set.{toldTotalled}
+use Rattle.particles.specs.Set.{toldChecked}
 use Rattle.particles.proofs.Checks.{size-limits}
 use Rattle.bath_file.proofs.Checks.{Valid, valid}
 use Rattle.bath_file.proofs.Answers.{wrong-length, records-accepted, records-refused}
@@ -23,8 +23,8 @@ add-if1 c = omega (arith, accepted (c .before) .count-to)
 returns : tie.Need-returns
 returns c = sym (wrong-length (c .before .before .args .h) (now (c .before .before .args .bytes)) (c .if1 .taken))
 
-walk-requires : tie.Need-walk-requires
-walk-requires c κs = (size-limits _ _ (accepted (c .before .before) .size), accepted (c .before .before) .count-to, omega arith)
+check-requires : tie.Need-check-requires
+check-requires c κs = (size-limits _ _ (accepted (c .before .before) .size), accepted (c .before .before) .count-to, omega arith)
 
 enum-told : tie.Need-enum-told
 enum-told c = search needs
@@ -33,10 +33,10 @@ enum-known-refusal : tie.Need-enum-known-refusal
 enum-known-refusal c = search needs
 
 returns-2 : tie.Need-returns-2
-returns-2 c = sym (records-accepted (c .before .before .before .before .before .args .h) (now (c .before .before .before .before .before .args .bytes)) (c .before .before .before .if1 .left) (sym (c .before .before .walk .ensures) ∙ ap toldTotalled (c .enum-told .given .1)))
+returns-2 c = sym (records-accepted (c .before .before .before .before .before .args .h) (now (c .before .before .before .before .before .args .bytes)) (c .before .before .before .if1 .left) (sym (c .before .before .check .ensures) ∙ ap toldChecked (c .enum-told .given .1)))
 
 returns-3 : tie.Need-returns-3
-returns-3 c = sym (records-refused (c .before .before .before .before .before .before .args .h) (now (c .before .before .before .before .before .before .args .bytes)) (c .before .before .before .before .if1 .left) (sym (c .before .before .before .walk .ensures) ∙ ap toldTotalled (c .before .refusal .given .1)))
+returns-3 c = sym (records-refused (c .before .before .before .before .before .before .args .h) (now (c .before .before .before .before .before .before .args .bytes)) (c .before .before .before .before .if1 .left) (sym (c .before .before .before .check .ensures) ∙ ap toldChecked (c .before .refusal .given .1)))
 
 pub check-records-spec : {M : Type 1} → statement M
 check-records-spec =
@@ -45,7 +45,7 @@ check-records-spec =
     mul-if1
     add-if1
     returns
-    walk-requires
+    check-requires
     enum-told
     enum-known-refusal
     returns-2

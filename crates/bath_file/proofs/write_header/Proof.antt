@@ -26,15 +26,9 @@ enum-known-accepted c = search needs
 
 pack-requires : tie.Need-pack-requires
 pack-requires c κs =
-    let h = c .before .before .before .before .before .before .args .h in
-    let v = valid h (result h) (sym (c .before .before .before .check-values .ensures) ∙ ap toldRead (c .before .accepted .given .1)) in
-    subst (λ h. checkedHeader h (result h) ≡ result h) (same-result (v .1)) (passes h (result h) (v .0))
-
-slice-aggregate-store : tie.Need-slice-aggregate-store
-slice-aggregate-store c = search needs
-
-store-requires : tie.Need-store-requires
-store-requires c κs = search needs
+    let h = c .before .before .before .before .before .before .before .args .h in
+    let v = valid h (result h) (sym (c .before .before .before .before .check-values .ensures) ∙ ap toldRead (c .before .before .accepted .given .1)) in
+    (subst (λ h. checkedHeader h (result h) ≡ result h) (same-result (v .1)) (passes h (result h) (v .0)), c .before .before .before .before .before .if1 .left)
 
 returns-2 : tie.Need-returns-2
 returns-2 c =
@@ -46,9 +40,11 @@ same-length c = search needs
 
 returns-3 : tie.Need-returns-3
 returns-3 c =
-    let v = valid (c .before .before .before .before .before .before .before .before .before .before .before .before .args .h) _ (sym (c .before .before .before .before .before .before .before .before .before .check-values .ensures) ∙ ap toldRead (c .before .before .before .before .before .before .before .accepted .given .1)) in
-    let e = write-accepted (c .before .before .before .before .before .before .before .before .before .before .before .before .args .h) (now (c .before .before .before .before .before .before .before .before .before .before .before .before .args .bytes)) (c .before .before .before .before .before .before .before .before .before .before .if1 .left) (v .0) in
-    (sym e, c .before .before .store .ensures ∙ c .before .before .before .before .before .pack .ensures ∙ ap headerOf (sym (same-result (v .1))) ∙ sym (after (c .before .before .before .before .before .before .before .before .before .before .before .before .args .h) (now (c .before .before .before .before .before .before .before .before .before .before .before .before .args .bytes)) e))
+    let h = c .before .before .before .before .before .before .before .before .before .before .args .h in
+    let l = now (c .before .before .before .before .before .before .before .before .before .before .args .bytes) in
+    let v = valid h _ (sym (c .before .before .before .before .before .before .before .check-values .ensures) ∙ ap toldRead (c .before .before .before .before .before .accepted .given .1)) in
+    let e = write-accepted h l (c .before .before .before .before .before .before .before .before .if1 .left) (v .0) in
+    (sym e, c .before .before .pack .ensures ∙ ap headerOf (sym (same-result (v .1))) ∙ sym (after h l e))
 
 pub write-header-spec : {M : Type 1} → statement M
 write-header-spec =
@@ -59,8 +55,6 @@ write-header-spec =
     enum-known-refusal
     enum-known-accepted
     pack-requires
-    slice-aggregate-store
-    store-requires
     returns-2
     same-length
     returns-3)

@@ -5,7 +5,7 @@ use denote.Ref.{now}
 use Prim.Native.Nat.{_*_}
 use lib.ListN.{length}
 use Rattle.update.specs.Checks.{lengthsAre}
-use Rattle.transfer.specs.Transfer.{toldTransferred, scatterAnswer}
+use Rattle.transfer.specs.Transfer.{toldScattered, scatterAnswer}
 use Rattle.exports.proofs.Coding.{place-of, tells-done, tells-refused}
 use Rattle.exports.proofs.Places as places
 use Rattle.exports.proofs.gondwize_scatter.Statement.{statement}
@@ -21,7 +21,7 @@ code-requires : tie.Need-code-requires
 code-requires c κs =
     let s = c .before .before .before .before .before .before .before .before .before .before .before .before .before in
     let u = c .before .before .before .before .before .before .before .scatter .ensures in
-    place-of (c .before .refusal .given .0 .0) (u .answer) (ap toldTransferred (c .before .refusal .given .1))
+    place-of (c .before .refusal .given .0 .0) (u .answer) (ap toldScattered (c .before .refusal .given .1))
     (places.told (scatterAnswer (s .args .nx) (s .args .ny) (now (s .args .records)) (length (now (s .args .mass))) (length (now (s .args .px))) (length (now (s .args .py)))) (places.entry (s .args .nx) (s .args .ny) (now (s .args .records)) (lengthsAre (s .args .nx * s .args .ny) (length (now (s .args .mass))) (length (now (s .args .px))) (length (now (s .args .py))))))
 
 enum-told : tie.Need-enum-told
@@ -39,7 +39,7 @@ same-length-3 c = search needs
 returns : tie.Need-returns
 returns c =
     let u = c .before .before .before .before .before .before .before .before .scatter .ensures in
-    tells-refused u (c .before .before .refusal .given .0 .0) (ap toldTransferred (c .before .before .refusal .given .1)) (c .code .ensures)
+    tells-refused u (c .before .before .refusal .given .0 .0) (ap toldScattered (c .before .before .refusal .given .1)) (c .code .ensures)
 
 same-length-4 : tie.Need-same-length-4
 same-length-4 c = search needs
@@ -52,7 +52,7 @@ same-length-6 c = search needs
 
 returns-2 : tie.Need-returns-2
 returns-2 c =
-    tells-done (c .before .before .before .before .before .before .scatter .ensures) (ap toldTransferred (c .enum-told .given .1))
+    tells-done (c .before .before .before .before .before .before .scatter .ensures) (ap toldScattered (c .enum-told .given .1))
 
 pub gondwize-scatter-spec : {M : Type 1} → statement M
 gondwize-scatter-spec =

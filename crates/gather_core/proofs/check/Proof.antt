@@ -3,7 +3,7 @@ use mathlib.Core.Path.{_∙_}
 use mir.Facts.{toZ-ofZ}
 use borrow.Author.Needs.{needs}
 use Rattle.refusal.specs.Refused.{result}
-use Rattle.gather_point.proofs.Machine.{Read}
+use Rattle.gather_point.proofs.Numbers.{Read}
 use Rattle.gather_core.specs.Gather.{tooFast, tooSteep, offGrid, firstOf}
 use Rattle.gather_core.specs.Parts.{checkOf}
 use Rattle.gather_core.proofs.check.Statement.{statement}

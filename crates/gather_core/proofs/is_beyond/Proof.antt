@@ -1,17 +1,15 @@
 -- `gather_core::is_beyond` meets its contract. Assumes nothing.
 use mathlib.Core.Path.{_≡_, sym, ap, ap₂, _∙_}
 use Prim.Native.Nat.{ℕ, _≤_}
-use native.Mathlib.Nat.{lt-of-le-of-lt}
 use native.Mathlib.Omega.{arith}
-use lib.Dec.{lit<}
 use lib.IntN.{ℤ, pos, _-ℤ_}
 use lib.Signed.{ltZ}
 use mir.Syntax.{w64}
 use mir.Val.{SFits, toZ, ofZ}
-use mir.Facts.{toZ-ofZ, toZ-pos}
+use mir.Facts.{toZ-ofZ}
 use borrow.Author.Needs.{needs}
-use Rattle.arith.specs.Size.{Bound, bound-equal, bounded, sizes}
-use Rattle.gather_point.proofs.Machine.{read, fitting}
+use Rattle.arith.specs.Size.{Bound, bound-equal, bounded, sizes, size-given, fits}
+use Rattle.arith.specs.Machine.{read, read-natural}
 use Rattle.gather_core.proofs.Checks.{beyond-low, beyond-high}
 use Rattle.gather_core.proofs.is_beyond.Statement.{statement}
 use Rattle.gather_core.proofs.is_beyond.Tie as tie
@@ -19,7 +17,7 @@ use Rattle.gather_core.proofs.is_beyond.Tie as tie
 -- the limit as a signed number, and its negative
 module _ {m : ℕ} {z : ℤ} (small : m ≤ 65535) (f : SFits w64 z) where
   top-is : toZ w64 m ≡ pos m
-  top-is = toZ-pos w64 (lt-of-le-of-lt small (lit< tt))
+  top-is = read-natural w64 small tt
 
   bottom-is : pos 0 -ℤ toZ w64 m ≡ pos 0 -ℤ pos m
   bottom-is = ap (λ s. pos 0 -ℤ s) top-is
@@ -28,7 +26,7 @@ module _ {m : ℕ} {z : ℤ} (small : m ≤ 65535) (f : SFits w64 z) where
   bottom-size = bound-equal (sym bottom-is) (bounded (search sizes depth 20) tt)
 
   low-test : ltZ (toZ w64 (ofZ w64 z)) (toZ w64 (ofZ w64 (pos 0 -ℤ toZ w64 m))) ≡ ltZ z (pos 0 -ℤ pos m)
-  low-test = ap₂ ltZ (toZ-ofZ f) (read bottom-size tt ∙ bottom-is)
+  low-test = ap₂ ltZ (toZ-ofZ f) (read w64 bottom-size tt ∙ bottom-is)
 
   high-test : ltZ (toZ w64 m) (toZ w64 (ofZ w64 z)) ≡ ltZ (pos m) z
   high-test = ap₂ ltZ top-is (toZ-ofZ f)
@@ -40,7 +38,7 @@ cast-top : tie.Need-cast-top
 cast-top c = search needs
 
 sub-if1 : tie.Need-sub-if1
-sub-if1 c = fitting (bottom-size (small c) (c .fits .z)) tt
+sub-if1 c = fits (size-given (bottom-size (small c) (c .fits .z))) tt
 
 returns : tie.Need-returns
 returns c =

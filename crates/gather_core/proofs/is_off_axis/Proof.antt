@@ -2,9 +2,10 @@
 use mathlib.Core.Path.{sym, ap, ap₂, _∙_}
 use lib.IntN.{pos}
 use lib.Signed.{ltZ}
+use mir.Syntax.{w64}
 use mir.Facts.{toZ-ofZ}
 use borrow.Author.Needs.{needs}
-use Rattle.gather_point.proofs.Machine.{read-result}
+use Rattle.arith.specs.Machine.{read-result}
 use Rattle.gather_core.proofs.Checks.{off-low, off-high}
 use Rattle.gather_core.proofs.is_off_axis.Statement.{statement}
 use Rattle.gather_core.proofs.is_off_axis.Tie as tie
@@ -20,7 +21,7 @@ last-place-requires c κs = search needs
 returns-2 : tie.Need-returns-2
 returns-2 c =
     let s = c .before .before in
-    ap₂ ltZ (read-result (c .last-place .ok) (c .last-place .ensures)) (toZ-ofZ (s .fits .z))
+    ap₂ ltZ (read-result w64 (c .last-place .ok) (c .last-place .ensures)) (toZ-ofZ (s .fits .z))
     ∙ off-high (s .args .n) (s .args .z) (ap (λ z. ltZ z (pos 32)) (sym (toZ-ofZ (s .fits .z))) ∙ c .before .if1 .left)
 
 pub is-off-axis-spec : {M : Type 1} → statement M

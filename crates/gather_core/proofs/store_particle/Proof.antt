@@ -4,7 +4,7 @@ use Prim.Native.Nat.{_+_}
 use mir.Facts.{toZ-ofZ}
 use borrow.Author.Needs.{needs}
 use Rattle.gather_core.specs.Parts.{fiveStored, particleStored}
-use Rattle.gather_point.proofs.Machine.{Read}
+use Rattle.gather_point.proofs.Numbers.{Read}
 use Rattle.gather_core.proofs.store_particle.Statement.{statement}
 use Rattle.gather_core.proofs.store_particle.Tie as tie
 

@@ -8,20 +8,20 @@ use mir.Syntax.{w64}
 use mir.Val.{toZ, ofZ, hbits}
 use borrow.Author.Needs.{needs}
 use Rattle.arith.specs.Size.{Bound, bound-widen, bound-equal}
+use Rattle.arith.specs.Machine.{read, read-bound, read-result}
 use Rattle.arith.specs.Rounding.{nearest, halvesAway, nearest-bound}
 use Rattle.gather_point.specs.Point.{velocityOf, momentOf}
-use Rattle.gather_point.proofs.Machine.{read, read-bound, read-result}
 use Rattle.gather_point.proofs.affine_velocity.Statement.{statement}
 use Rattle.gather_point.proofs.affine_velocity.Tie as tie
 
 -- one entry of B: the calls of `moment` and `rounded`
 entry : {sum tilt q m r : ℤ} → Bound sum 9007199254740992 → Bound tilt 9007199254740992 → Bound q 32 → (m ≡ momentOf (toZ w64 (ofZ w64 sum)) (toZ w64 (ofZ w64 tilt)) (toZ w64 (ofZ w64 q))) × Bound m 1152921504606846976 → mag r < 2 ^ hbits w64 → r ≡ nearest halvesAway (toZ w64 (ofZ w64 m)) (2 ^ 34) → toZ w64 (ofZ w64 r) ≡ nearest halvesAway (momentOf sum tilt q) (2 ^ 34)
 entry h k l m ok e =
-    read-result ok
-    (e ∙ ap (λ z. nearest halvesAway z (2 ^ 34)) (read (m .1) tt ∙ m .0 ∙ (λ i. momentOf (read h tt i) (read k tt i) (read l tt i))))
+    read-result w64 ok
+    (e ∙ ap (λ z. nearest halvesAway z (2 ^ 34)) (read w64 (m .1) tt ∙ m .0 ∙ (λ i. momentOf (read w64 h tt i) (read w64 k tt i) (read w64 l tt i))))
 
 rounded-requires : tie.Need-rounded-requires
-rounded-requires c κs = bound-widen (lit≤ tt) (read-bound (c .before .pre .0 .sum-size) tt)
+rounded-requires c κs = bound-widen (lit≤ tt) (read-bound w64 (c .before .pre .0 .sum-size) tt)
 
 moment-requires : tie.Need-moment-requires
 moment-requires c κs = search needs
@@ -44,7 +44,7 @@ returns c =
     let g = f .before .before .before in
     let b = g .before .before .pre in
     let v =
-    read-result (g .rounded .ok) (g .rounded .ensures ∙ ap (λ z. nearest halvesAway z (2 ^ 34)) (read (b .0 .sum-size) tt)) in (
+    read-result w64 (g .rounded .ok) (g .rounded .ensures ∙ ap (λ z. nearest halvesAway z (2 ^ 34)) (read w64 (b .0 .sum-size) tt)) in (
       λ i. record {
         v = v i;
         bx = entry (b .0 .sum-size) (b .0 .across-size) (b .1) (f .moment .ensures) (e .rounded2 .ok) (e .rounded2 .ensures) i;

@@ -1,8 +1,9 @@
 -- `gather_point::gather_at` meets its contract. Assumes nothing.
 use mathlib.Core.Path.{_∙_}
+use mir.Syntax.{w64}
 use borrow.Author.Needs.{needs}
+use Rattle.arith.specs.Machine.{read-result}
 use Rattle.gather_point.specs.Point.{velocityOf, nineNodes, axisAt}
-use Rattle.gather_point.proofs.Machine.{read-result}
 use Rattle.gather_point.proofs.gather_at.Statement.{statement}
 use Rattle.gather_point.proofs.gather_at.Tie as tie
 
@@ -43,8 +44,8 @@ returns c =
     let w = f .before in
     let v = w .before in
     let s = v .before .args in
-    let qx = read-result (p .offset-of .ok) (p .offset-of .ensures .0) in
-    let qy = read-result (q .offset-of2 .ok) (q .offset-of2 .ensures .0) in
+    let qx = read-result w64 (p .offset-of .ok) (p .offset-of .ensures .0) in
+    let qy = read-result w64 (q .offset-of2 .ok) (q .offset-of2 .ensures .0) in
     record {
       x-is = g .gather-axis .ensures .0 ∙ (λ i. velocityOf (nineNodes (v .row .ensures i) (w .row2 .ensures i) (s .nx) (s .ux .now) (f .first-node .ensures i)) (qx i) (qy i));
       y-is = c .gather-axis2 .ensures .0 ∙ (λ i. velocityOf (nineNodes (v .row .ensures i) (w .row2 .ensures i) (s .nx) (s .uy .now) (f .first-node .ensures i)) (qx i) (qy i));

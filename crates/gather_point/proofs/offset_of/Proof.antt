@@ -9,9 +9,9 @@ use mir.Val.{toZ}
 use mir.Facts.{toZ-pos}
 use borrow.Author.Needs.{needs}
 use Rattle.arith.specs.Order.{linear, reading, nothing}
-use Rattle.arith.specs.Size.{Bound, bound-equal, within-bound}
+use Rattle.arith.specs.Size.{Bound, bound-equal, within-bound, size-given, fits}
+use Rattle.arith.specs.Machine.{read}
 use Rattle.spline.specs.Spline.{offset, nearestNode}
-use Rattle.gather_point.proofs.Machine.{fitting, read}
 use Rattle.gather_point.proofs.offset_of.Statement.{statement}
 use Rattle.gather_point.proofs.offset_of.Tie as tie
 
@@ -34,11 +34,11 @@ cast-result : tie.Need-cast-result
 cast-result c = search needs
 
 sub-result : tie.Need-sub-result
-sub-result c = fitting (raw-size (c .args .x)) tt
+sub-result c = fits (size-given (raw-size (c .args .x))) tt
 
 returns : tie.Need-returns
 returns c =
-    let e = read (raw-size (c .args .x)) tt ∙ offset-is (c .args .x) in
+    let e = read w64 (raw-size (c .args .x)) tt ∙ offset-is (c .args .x) in
     (e, bound-equal (sym e) (offset-size (c .args .x)))
 
 pub offset-of-spec : {M : Type 1} → statement M

@@ -10,12 +10,13 @@ use mir.Syntax.{w64}
 use mir.Val.{toZ, ofZ}
 use borrow.Author.Needs.{needs}
 use Rattle.arith.specs.Size.{Bound, bound-widen}
+use Rattle.arith.specs.Machine.{read, read-bound}
 use Rattle.arith.specs.Sums.{Each}
 use Rattle.spline.specs.declared.AxisWeights.{AxisWeights}
 use Rattle.unpacked.proofs.Laws.{each-at}
 use Rattle.gather_point.specs.declared.Shares.{Shares}
 use Rattle.gather_point.specs.Point.{weighed, rowShares, SmallWeights, SmallShares}
-use Rattle.gather_point.proofs.Machine.{read, read-bound, row-small}
+use Rattle.gather_point.proofs.Numbers.{row-small}
 use Rattle.gather_point.proofs.row_shares.Statement.{statement}
 use Rattle.gather_point.proofs.row_shares.Tie as tie
 
@@ -35,7 +36,7 @@ sizes-at u at h e =
 row : (w : AxisWeights) {u : List ℤ} {at : ℕ} → SmallWeights w → Sizes u at → (r : Shares) → r ≡ weighed w (toZ w64 (ofZ w64 (getD u at (pos 0)))) (toZ w64 (ofZ w64 (getD u (at + 1) (pos 0)))) (toZ w64 (ofZ w64 (getD u (at + 2) (pos 0)))) → (r ≡ rowShares w u at) × SmallShares r
 unfolding rowShares
 row w {u} {at} s d r e =
-    let is : r ≡ rowShares w u at = e ∙ (λ i. weighed w (read (d .first) tt i) (read (d .second) tt i) (read (d .third) tt i)) in
+    let is : r ≡ rowShares w u at = e ∙ (λ i. weighed w (read w64 (d .first) tt i) (read w64 (d .second) tt i) (read w64 (d .third) tt i)) in
     (is, subst SmallShares (sym is) (row-small w _ _ _ s (d .first) (d .second) (d .third)))
 
 mul-weigh-three : tie.Need-mul-weigh-three
@@ -66,7 +67,7 @@ weigh-three-requires : tie.Need-weigh-three-requires
 weigh-three-requires c κs =
     let s = c .before .before .before in
     let d = sizes-at (s .args .u .now) (s .args .at) (s .pre .0) (s .pre .1) in
-    (bound-widen (lit≤ tt) (read-bound (d .first) tt), bound-widen (lit≤ tt) (read-bound (d .second) tt), bound-widen (lit≤ tt) (read-bound (d .third) tt))
+    (bound-widen (lit≤ tt) (read-bound w64 (d .first) tt), bound-widen (lit≤ tt) (read-bound w64 (d .second) tt), bound-widen (lit≤ tt) (read-bound w64 (d .third) tt))
 
 returns : tie.Need-returns
 returns c =

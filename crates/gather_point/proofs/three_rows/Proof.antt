@@ -3,11 +3,12 @@ use mathlib.Core.Path.{_≡_, sym, ap, subst, _∙_}
 use mir.Syntax.{w64}
 use mir.Val.{toZ, ofZ}
 use borrow.Author.Needs.{needs}
+use Rattle.arith.specs.Machine.{read, read-as}
 use Rattle.spline.specs.declared.AxisWeights.{AxisWeights}
 use Rattle.gather_point.specs.declared.Shares.{Shares}
 use Rattle.gather_point.specs.declared.Block.{Block}
 use Rattle.gather_point.specs.Point.{weighed, blockOf, SmallWeights, SmallShares, SmallBlock}
-use Rattle.gather_point.proofs.Machine.{read, read-as, block-small}
+use Rattle.gather_point.proofs.Numbers.{block-small}
 use Rattle.gather_point.proofs.three_rows.Statement.{statement}
 use Rattle.gather_point.proofs.three_rows.Tie as tie
 
@@ -24,17 +25,17 @@ rows {w} a b c h k s t e f = (is, subst SmallBlock (sym is) small)
     small = block-small w a b c k (h .0) (h .1) (h .2)
 
     sums : s ≡ weighed w (a .sum) (b .sum) (c .sum)
-    sums = e ∙ (λ i. weighed w (read (h .0 .sum-size) tt i) (read (h .1 .sum-size) tt i) (read (h .2 .sum-size) tt i))
+    sums = e ∙ (λ i. weighed w (read w64 (h .0 .sum-size) tt i) (read w64 (h .1 .sum-size) tt i) (read w64 (h .2 .sum-size) tt i))
 
     tilts : t ≡ weighed w (a .tilt) (b .tilt) (c .tilt)
-    tilts = f ∙ (λ i. weighed w (read (h .0 .tilt-size) tt i) (read (h .1 .tilt-size) tt i) (read (h .2 .tilt-size) tt i))
+    tilts = f ∙ (λ i. weighed w (read w64 (h .0 .tilt-size) tt i) (read w64 (h .1 .tilt-size) tt i) (read w64 (h .2 .tilt-size) tt i))
 
     is : readBlock s t ≡ blockOf w a b c
     is =
         λ i. record {
-          sum = read-as (ap (λ r. r .sum) sums) (small .sum-size) tt i;
-          across = read-as (ap (λ r. r .sum) tilts) (small .across-size) tt i;
-          up = read-as (ap (λ r. r .tilt) sums) (small .up-size) tt i;
+          sum = read-as w64 (ap (λ r. r .sum) sums) (small .sum-size) tt i;
+          across = read-as w64 (ap (λ r. r .sum) tilts) (small .across-size) tt i;
+          up = read-as w64 (ap (λ r. r .tilt) sums) (small .up-size) tt i;
         }
 
 weigh-three-requires : tie.Need-weigh-three-requires

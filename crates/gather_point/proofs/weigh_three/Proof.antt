@@ -6,22 +6,22 @@ use mir.Syntax.{w64}
 use mir.Val.{toZ, ofZ}
 use borrow.Author.Needs.{needs}
 use Rattle.arith.specs.Size.{Bound, bound-pos, bound-equal}
+use Rattle.arith.specs.Machine.{read, read-as, read-bound}
 use Rattle.spline.specs.declared.AxisWeights.{AxisWeights}
 use Rattle.gather_point.specs.Point.{Weighable, weighed, sharesOf, SmallWeights}
-use Rattle.gather_point.proofs.Machine.{read, read-as, read-bound}
 use Rattle.gather_point.proofs.weigh_three.Statement.{statement}
 use Rattle.gather_point.proofs.weigh_three.Tie as tie
 
 -- the weights as the three calls of `wide` give them
 module _ {w : AxisWeights} {l n u a b c : ℤ} (s : SmallWeights w) (p : l ≡ pos (w .lower)) (q : n ≡ pos (w .nearest)) (r : u ≡ pos (w .upper)) (h : Bound a 34359738368 × Bound b 34359738368 × Bound c 34359738368) where
   lower-is : toZ w64 (ofZ w64 l) ≡ pos (w .lower)
-  lower-is = read-as p (bound-pos (s .lower-size)) tt
+  lower-is = read-as w64 p (bound-pos (s .lower-size)) tt
 
   nearest-is : toZ w64 (ofZ w64 n) ≡ pos (w .nearest)
-  nearest-is = read-as q (bound-pos (s .nearest-size)) tt
+  nearest-is = read-as w64 q (bound-pos (s .nearest-size)) tt
 
   upper-is : toZ w64 (ofZ w64 u) ≡ pos (w .upper)
-  upper-is = read-as r (bound-pos (s .upper-size)) tt
+  upper-is = read-as w64 r (bound-pos (s .upper-size)) tt
 
   weighable : Weighable (toZ w64 (ofZ w64 l)) (toZ w64 (ofZ w64 n)) (toZ w64 (ofZ w64 u)) (toZ w64 (ofZ w64 a)) (toZ w64 (ofZ w64 b)) (toZ w64 (ofZ w64 c))
   weighable =
@@ -29,14 +29,14 @@ module _ {w : AxisWeights} {l n u a b c : ℤ} (s : SmallWeights w) (p : l ≡ p
         lower-size = bound-equal (sym lower-is) (bound-pos (s .lower-size));
         nearest-size = bound-equal (sym nearest-is) (bound-pos (s .nearest-size));
         upper-size = bound-equal (sym upper-is) (bound-pos (s .upper-size));
-        first = read-bound (h .0) tt;
-        second = read-bound (h .1) tt;
-        third = read-bound (h .2) tt;
+        first = read-bound w64 (h .0) tt;
+        second = read-bound w64 (h .1) tt;
+        third = read-bound w64 (h .2) tt;
       }
 
   weighs : sharesOf (toZ w64 (ofZ w64 l)) (toZ w64 (ofZ w64 n)) (toZ w64 (ofZ w64 u)) (toZ w64 (ofZ w64 a)) (toZ w64 (ofZ w64 b)) (toZ w64 (ofZ w64 c)) ≡ weighed w a b c
   weighs =
-      λ i. sharesOf (lower-is i) (nearest-is i) (upper-is i) (read (h .0) tt i) (read (h .1) tt i) (read (h .2) tt i)
+      λ i. sharesOf (lower-is i) (nearest-is i) (upper-is i) (read w64 (h .0) tt i) (read w64 (h .1) tt i) (read w64 (h .2) tt i)
 
 wide-requires : tie.Need-wide-requires
 wide-requires c κs = search needs

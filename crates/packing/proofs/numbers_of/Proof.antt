@@ -2,9 +2,9 @@
 use borrow.Author.Needs.{needs}
 use native.Mathlib.Omega.{arith}
 use mathlib.Core.List.{[], _∷_}
-use mir.Syntax.{w64}
+use mir.Syntax.{w16, w64}
 use mir.Facts.{toZ-pos}
-use Rattle.packing.proofs.Widths.{widened, widened-fits}
+use Rattle.arith.specs.Machine.{widened, widened-fits}
 use Rattle.packing.proofs.numbers_of.Statement.{statement}
 use Rattle.packing.proofs.numbers_of.Tie as tie
 
@@ -21,22 +21,22 @@ cast-t5 : tie.Need-cast-t5
 cast-t5 c = search needs
 
 cast-t6 : tie.Need-cast-t6
-cast-t6 c = widened-fits (c .before .before .before .before .before .before .args .p .vx) (c .struct-told .given .1 .1 .1 .1 .0 .1)
+cast-t6 c = widened-fits w16 w64 tt (c .before .before .before .before .before .before .args .p .vx) (c .struct-told .given .1 .1 .1 .1 .0 .1)
 
 cast-t7 : tie.Need-cast-t7
-cast-t7 c = widened-fits (c .before .before .before .before .before .before .before .before .args .p .vy) (c .struct-told2 .given .1 .1 .1 .1 .1 .0 .1)
+cast-t7 c = widened-fits w16 w64 tt (c .before .before .before .before .before .before .before .before .args .p .vy) (c .struct-told2 .given .1 .1 .1 .1 .1 .0 .1)
 
 cast-t8 : tie.Need-cast-t8
-cast-t8 c = widened-fits (c .before .before .before .before .before .before .before .before .before .before .args .p .bxx) (c .struct-told3 .given .1 .1 .1 .1 .1 .1 .0 .1)
+cast-t8 c = widened-fits w16 w64 tt (c .before .before .before .before .before .before .before .before .before .before .args .p .bxx) (c .struct-told3 .given .1 .1 .1 .1 .1 .1 .0 .1)
 
 cast-t9 : tie.Need-cast-t9
-cast-t9 c = widened-fits (c .before .before .before .before .before .before .before .before .before .before .before .before .args .p .bxy) (c .struct-told4 .given .1 .1 .1 .1 .1 .1 .1 .0 .1)
+cast-t9 c = widened-fits w16 w64 tt (c .before .before .before .before .before .before .before .before .before .before .before .before .args .p .bxy) (c .struct-told4 .given .1 .1 .1 .1 .1 .1 .1 .0 .1)
 
 cast-t10 : tie.Need-cast-t10
-cast-t10 c = widened-fits (c .before .before .before .before .before .before .before .before .before .before .before .before .before .before .args .p .byx) (c .struct-told5 .given .1 .1 .1 .1 .1 .1 .1 .1 .0 .1)
+cast-t10 c = widened-fits w16 w64 tt (c .before .before .before .before .before .before .before .before .before .before .before .before .before .before .args .p .byx) (c .struct-told5 .given .1 .1 .1 .1 .1 .1 .1 .1 .0 .1)
 
 cast-t11 : tie.Need-cast-t11
-cast-t11 c = widened-fits (c .before .before .before .before .before .before .before .before .before .before .before .before .before .before .before .before .args .p .byy) (c .struct-told6 .given .1 .1 .1 .1 .1 .1 .1 .1 .1 .0 .1)
+cast-t11 c = widened-fits w16 w64 tt (c .before .before .before .before .before .before .before .before .before .before .before .before .before .before .before .before .args .p .byy) (c .struct-told6 .given .1 .1 .1 .1 .1 .1 .1 .1 .1 .0 .1)
 
 returns : tie.Need-returns
 returns c =
@@ -47,12 +47,12 @@ returns c =
     ∷ toZ-pos w64 {n = p .mass} (omega (arith, fits .1 .0)) i
     ∷ toZ-pos w64 {n = p .x} (omega (arith, fits .1 .1 .0)) i
     ∷ toZ-pos w64 {n = p .y} (omega (arith, fits .1 .1 .1 .0)) i
-    ∷ widened (p .vx) (fits .1 .1 .1 .1 .0 .1) i
-    ∷ widened (p .vy) (fits .1 .1 .1 .1 .1 .0 .1) i
-    ∷ widened (p .bxx) (fits .1 .1 .1 .1 .1 .1 .0 .1) i
-    ∷ widened (p .bxy) (fits .1 .1 .1 .1 .1 .1 .1 .0 .1) i
-    ∷ widened (p .byx) (fits .1 .1 .1 .1 .1 .1 .1 .1 .0 .1) i
-    ∷ widened (p .byy) (fits .1 .1 .1 .1 .1 .1 .1 .1 .1 .0 .1) i
+    ∷ widened w16 w64 tt (p .vx) (fits .1 .1 .1 .1 .0 .1) i
+    ∷ widened w16 w64 tt (p .vy) (fits .1 .1 .1 .1 .1 .0 .1) i
+    ∷ widened w16 w64 tt (p .bxx) (fits .1 .1 .1 .1 .1 .1 .0 .1) i
+    ∷ widened w16 w64 tt (p .bxy) (fits .1 .1 .1 .1 .1 .1 .1 .0 .1) i
+    ∷ widened w16 w64 tt (p .byx) (fits .1 .1 .1 .1 .1 .1 .1 .1 .0 .1) i
+    ∷ widened w16 w64 tt (p .byy) (fits .1 .1 .1 .1 .1 .1 .1 .1 .1 .0 .1) i
     ∷ []
 
 pub numbers-of-spec : {M : Type 1} → statement M

@@ -1,9 +1,13 @@
 -- `packing::pack_particle` meets its contract: the part that is lent holds the particle's record. Assumes nothing.
 use borrow.Author.Needs.{needs}
-use mathlib.Core.Path.{_∙_}
+use mathlib.Core.Path.{sym, ap, _∙_, subst}
+use Prim.Native.Nat.{_+_, _*_}
+use native.Mathlib.Omega.{arith}
+use borrow.Rule.Slice.PartMut.{mid-len}
 use denote.Ref.{now}
+use Rattle.particle.specs.Record.{recordOf}
+use Rattle.particle.proofs.Valid.{Valid, valid-write}
 use Rattle.packing.proofs.Filling.{part-placed}
-use Rattle.packing.proofs.Sets.{written-part}
 use Rattle.packing.proofs.pack_particle.Statement.{statement}
 use Rattle.packing.proofs.pack_particle.Tie as tie
 
@@ -13,20 +17,24 @@ mul-at c = search needs
 particle-at-requires : tie.Need-particle-at-requires
 particle-at-requires c κs = search needs
 
-add-write-record : tie.Need-add-write-record
-add-write-record c = search needs
+add-pack : tie.Need-add-pack
+add-pack c = search needs
 
-sub-write-record : tie.Need-sub-write-record
-sub-write-record c = search needs
+sub-pack : tie.Need-sub-pack
+sub-pack c = search needs
 
-part-write-record-start : tie.Need-part-write-record-start
-part-write-record-start c = search needs
+part-pack-start : tie.Need-part-pack-start
+part-pack-start c = search needs
 
-part-write-record-end : tie.Need-part-write-record-end
-part-write-record-end c = search needs
+part-pack-end : tie.Need-part-pack-end
+part-pack-end c = search needs
 
-write-record-requires : tie.Need-write-record-requires
-write-record-requires c κs = search needs
+pack-requires : tie.Need-pack-requires
+pack-requires c κs =
+    let s = c .before .before .before in (
+      valid-write (c .before .particle-at .result) (subst Valid (sym (c .before .particle-at .ensures)) (s .pre .0 .valid)),
+      mid-len (14 * s .args .k) (14 * s .args .k + 14) (now (s .args .records)) (s .pre .1) ∙ omega arith,
+    )
 
 same-length : tie.Need-same-length
 same-length c = search needs
@@ -35,8 +43,7 @@ returns : tie.Need-returns
 returns c =
     let a = c .before .before .before .before .before .before .args in
     part-placed 14 (a .k) (now (a .records))
-    (c .before .before .write-record .ensures .1
-    ∙ written-part (a .k) (now (a .records)) (c .before .before .before .before .particle-at .ensures) (c .before .before .before .before .before .before .pre .0 .valid) (c .before .before .before .before .before .before .pre .1))
+    (c .before .before .pack .ensures ∙ ap recordOf (c .before .before .before .before .particle-at .ensures))
 
 pub pack-particle-spec : {M : Type 1} → statement M
 pack-particle-spec =
@@ -44,10 +51,10 @@ pack-particle-spec =
     (tie.spec
     mul-at
     particle-at-requires
-    add-write-record
-    sub-write-record
-    part-write-record-start
-    part-write-record-end
-    write-record-requires
+    add-pack
+    sub-pack
+    part-pack-start
+    part-pack-end
+    pack-requires
     same-length
     returns)

@@ -1,8 +1,8 @@
 -- `packing::particle_at` meets its contract: each number is the particle's, and of 16 bits. Assumes nothing.
 use borrow.Author.Needs.{needs}
 use native.Mathlib.Omega.{arith}
-use mathlib.Core.Path.{_∙_}
-use Rattle.particle.proofs.Signed.{back}
+use mir.Syntax.{w16}
+use Rattle.arith.specs.Machine.{read-result}
 use Rattle.packing.proofs.particle_at.Statement.{statement}
 use Rattle.packing.proofs.particle_at.Tie as tie
 
@@ -92,12 +92,12 @@ returns c =
       mass = c .before .before .before .before .before .before .before .before .unsigned-at2 .ensures i;
       x = c .before .before .before .before .before .before .before .unsigned-at3 .ensures i;
       y = c .before .before .before .before .before .before .unsigned-at4 .ensures i;
-      vx = (back (c .before .before .before .before .before .signed-at .result) (c .before .before .before .before .before .signed-at .ok) ∙ c .before .before .before .before .before .signed-at .ensures) i;
-      vy = (back (c .before .before .before .before .signed-at2 .result) (c .before .before .before .before .signed-at2 .ok) ∙ c .before .before .before .before .signed-at2 .ensures) i;
-      bxx = (back (c .before .before .before .signed-at3 .result) (c .before .before .before .signed-at3 .ok) ∙ c .before .before .before .signed-at3 .ensures) i;
-      bxy = (back (c .before .before .signed-at4 .result) (c .before .before .signed-at4 .ok) ∙ c .before .before .signed-at4 .ensures) i;
-      byx = (back (c .before .signed-at5 .result) (c .before .signed-at5 .ok) ∙ c .before .signed-at5 .ensures) i;
-      byy = (back (c .signed-at6 .result) (c .signed-at6 .ok) ∙ c .signed-at6 .ensures) i;
+      vx = read-result w16 (c .before .before .before .before .before .signed-at .ok) (c .before .before .before .before .before .signed-at .ensures) i;
+      vy = read-result w16 (c .before .before .before .before .signed-at2 .ok) (c .before .before .before .before .signed-at2 .ensures) i;
+      bxx = read-result w16 (c .before .before .before .signed-at3 .ok) (c .before .before .before .signed-at3 .ensures) i;
+      bxy = read-result w16 (c .before .before .signed-at4 .ok) (c .before .before .signed-at4 .ensures) i;
+      byx = read-result w16 (c .before .signed-at5 .ok) (c .before .signed-at5 .ensures) i;
+      byy = read-result w16 (c .signed-at6 .ok) (c .signed-at6 .ensures) i;
     }
 
 pub particle-at-spec : {M : Type 1} → statement M

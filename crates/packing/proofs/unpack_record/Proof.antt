@@ -1,68 +1,54 @@
--- `packing::unpack_record` meets its contract: the reader's answer is the record's particle, and no refusal. Assumes nothing.
+-- `packing::unpack_record` meets its contract: the part that is lent is the record. Assumes nothing.
 use borrow.Author.Needs.{needs}
 use mathlib.Core.Path.{ap, _∙_}
 use denote.Ref.{now}
+use Rattle.particle.specs.Record.{particleOf}
 use Rattle.unpacked.specs.Unpacked.{numbers}
 use Rattle.packing.specs.Internal.{placed}
-use Rattle.packing.proofs.Sets.{found, not-refused}
+use Rattle.packing.proofs.Sets.{part-is}
 use Rattle.packing.proofs.unpack_record.Statement.{statement}
 use Rattle.packing.proofs.unpack_record.Tie as tie
 
 mul-at : tie.Need-mul-at
 mul-at c = search needs
 
-add-read-at : tie.Need-add-read-at
-add-read-at c = search needs
+add-unpack : tie.Need-add-unpack
+add-unpack c = search needs
 
-sub-read-at : tie.Need-sub-read-at
-sub-read-at c = search needs
+sub-unpack : tie.Need-sub-unpack
+sub-unpack c = search needs
 
-part-read-at-start : tie.Need-part-read-at-start
-part-read-at-start c = search needs
+part-unpack-start : tie.Need-part-unpack-start
+part-unpack-start c = search needs
 
-part-read-at-end : tie.Need-part-read-at-end
-part-read-at-end c = search needs
+part-unpack-end : tie.Need-part-unpack-end
+part-unpack-end c = search needs
 
-read-at-requires : tie.Need-read-at-requires
-read-at-requires c κs = search needs
-
-enum-known-p : tie.Need-enum-known-p
-enum-known-p c = search needs
+unpack-requires : tie.Need-unpack-requires
+unpack-requires c κs = search needs
 
 put-particle-requires : tie.Need-put-particle-requires
 put-particle-requires c κs = search needs
-
-enum-told : tie.Need-enum-told
-enum-told c = search needs
 
 same-length : tie.Need-same-length
 same-length c = search needs
 
 returns : tie.Need-returns
 returns c =
-    let a = c .before .before .before .before .before .before .before .before .before .args in
+    let a = c .before .before .before .before .before .before .args in
     c .before .put-particle .ensures
-    ∙ ap (λ p. placed 10 (now (a .array)) (a .k) (numbers p))
-    (found (a .k) (now (a .records)) (c .before .before .before .before .before .before .read-at .result) (c .before .before .before .before .before .before .read-at .ensures) (c .before .before .before .before .before .before .before .before .before .pre .0) (c .before .before .before .before .p .given .1))
-
-returns-2 : tie.Need-returns-2
-returns-2 c =
-    let a = c .before .before .before .before .before .args in
-    not-refused (a .k) (now (a .records)) (c .before .before .read-at .result) (c .before .before .read-at .ensures) (c .before .before .before .before .before .pre .0) (c .enum-told .given .1)
+    ∙ ap (λ p. placed 10 (now (a .array)) (a .k) (numbers p)) (c .before .before .before .unpack .ensures ∙ ap particleOf (part-is (a .k) (now (a .records))))
 
 pub unpack-record-spec : {M : Type 1} → statement M
 unpack-record-spec =
     tie.close
     (tie.spec
     mul-at
-    add-read-at
-    sub-read-at
-    part-read-at-start
-    part-read-at-end
-    read-at-requires
-    enum-known-p
+    add-unpack
+    sub-unpack
+    part-unpack-start
+    part-unpack-end
+    unpack-requires
     put-particle-requires
-    enum-told
     same-length
-    returns
-    returns-2)
+    returns)

@@ -7,7 +7,7 @@ use lib.ListN.{length}
 use Rattle.particles.specs.Set.{particleIn, particlesIn}
 use Rattle.unpacked.specs.Unpacked.{unpacked}
 use Rattle.packing.proofs.Filling.{Filled, number-parts, filled-start, filled-room, filled-next, filled-end}
-use Rattle.packing.proofs.Sets.{count-in, in-at, record-at}
+use Rattle.packing.proofs.Sets.{count-in, in-at}
 use Rattle.packing.proofs.unpack_set.Statement.{statement}
 use Rattle.packing.proofs.unpack_set.Tie as tie
 
@@ -27,8 +27,7 @@ another c = omega (arith, count-in (now (c .before .before .before .args .record
 
 unpack-record-requires : tie.Need-unpack-record-requires Inv-loop μ-loop
 unpack-record-requires c κs =
-    let s = c .before .before .before .before in
-    (record-at (now (s .args .records)) (c .before .before .loop .k) (s .pre .0) (c .before .loop-test .taken), filled-room number-parts (c .before .before .loop .inv) (another (c .before)))
+    (omega arith, filled-room number-parts (c .before .before .loop .inv) (another (c .before)))
 
 add-k : tie.Need-add-k Inv-loop μ-loop
 add-k c = omega arith

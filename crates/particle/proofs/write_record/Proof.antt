@@ -22,13 +22,7 @@ enum-told : tie.Need-enum-told
 enum-told c = search needs
 
 pack-requires : tie.Need-pack-requires
-pack-requires c κs = sym (c .before .before .allow .ensures) ∙ ap toldWritten (c .enum-told .given .1)
-
-slice-aggregate-store : tie.Need-slice-aggregate-store
-slice-aggregate-store c = search needs
-
-store-requires : tie.Need-store-requires
-store-requires c κs = search needs
+pack-requires c κs = (sym (c .before .before .before .allow .ensures) ∙ ap toldWritten (c .before .enum-told .given .1), c .before .before .before .before .if1 .left)
 
 returns-2 : tie.Need-returns-2
 returns-2 c =
@@ -45,13 +39,13 @@ same-length c = search needs
 
 returns-3 : tie.Need-returns-3
 returns-3 c =
-    let p = c .before .before .before .before .before .before .before .before .before .before .before .args .p in
-    let l = now (c .before .before .before .before .before .before .before .before .before .before .before .args .bytes) in
+    let p = c .before .before .before .before .before .before .before .before .before .args .p in
+    let l = now (c .before .before .before .before .before .before .before .before .before .args .bytes) in
     let e =
-    judged p l (c .before .before .before .before .before .before .before .before .before .if1 .left)
-    ∙ sym (c .before .before .before .before .before .before .before .before .allow .ensures)
-    ∙ ap toldWritten (c .before .before .before .before .before .before .enum-told .given .1) in
-    (sym e, c .before .before .store .ensures ∙ c .before .before .before .before .before .pack .ensures ∙ sym (after p l e))
+    judged p l (c .before .before .before .before .before .before .before .if1 .left)
+    ∙ sym (c .before .before .before .before .before .before .allow .ensures)
+    ∙ ap toldWritten (c .before .before .before .before .enum-told .given .1) in
+    (sym e, c .before .before .pack .ensures ∙ sym (after p l e))
 
 pub write-record-spec : {M : Type 1} → statement M
 write-record-spec =
@@ -62,8 +56,6 @@ write-record-spec =
     enum-known-answer
     enum-told
     pack-requires
-    slice-aggregate-store
-    store-requires
     returns-2
     same-length
     returns-3)

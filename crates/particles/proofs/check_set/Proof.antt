@@ -1,27 +1,46 @@
--- `particles::check_set` meets its contract: an accepted set has as many records as its length says. Assumes nothing.
+-- `particles::check_set` meets its contract: the checks at entry, in order, and then the records'. Assumes nothing.
 use mathlib.Core.Path.{_≡_, sym, ap, _∙_}
+use mathlib.Core.Bool.{true}
+use native.Mathlib.Omega.{arith}
+use lib.ListN.{length}
 use borrow.Author.Needs.{needs}
-use Rattle.particles.specs.Set.{toldTotalled}
-use Rattle.particles.proofs.Checks.{checked-sums, checked-refused}
+use borrow.Author.Tests.{not-true, not-false}
+use Rattle.refusal.specs.Refused.{result, andThen}
+use Rattle.particles.specs.Set.{validSize, validLength}
+use Rattle.particles.proofs.Checks.{size-limits, length-limits, bad-size, bad-length, good-entry}
 use Rattle.particles.proofs.check_set.Statement.{statement}
 use Rattle.particles.proofs.check_set.Tie as tie
 
-set-totals-requires : tie.Need-set-totals-requires
-set-totals-requires c κs = search needs
+size : (c : tie.Else1) → validSize (c .before .before .before .args .nx) (c .before .before .before .args .ny) ≡ true
+size c = sym (c .before .size-is-valid .ensures) ∙ not-false (c .before .size-is-valid .result) (c .if1 .left)
 
-enum-told : tie.Need-enum-told
-enum-told c = search needs
+whole : (c : tie.Else2) → validLength (length (c .before .before .before .before .before .args .records .now)) ≡ true
+whole c = sym (c .before .length-is-valid .ensures) ∙ not-false (c .before .length-is-valid .result) (c .if2 .left)
 
-enum-known-refusal : tie.Need-enum-known-refusal
-enum-known-refusal c = search needs
+size-is-valid-requires : tie.Need-size-is-valid-requires
+size-is-valid-requires c κs = search needs
 
 returns : tie.Need-returns
-returns c =
-    sym (checked-sums (c .before .before .before .before .args .nx) (c .before .before .before .before .args .ny) (c .before .before .before .before .args .records .now) (sym (c .before .before .set-totals .ensures) ∙ ap toldTotalled (c .enum-told .given .1)))
+returns c = sym (bad-size (c .before .before .before .args .nx) (c .before .before .before .args .ny) (c .before .before .before .args .records .now) (λ ps. result (length ps)) (sym (c .before .size-is-valid .ensures) ∙ not-true (c .before .size-is-valid .result) (c .if1 .taken)))
+
+length-is-valid-requires : tie.Need-length-is-valid-requires
+length-is-valid-requires c κs = search needs
 
 returns-2 : tie.Need-returns-2
 returns-2 c =
-    sym (checked-refused (c .before .before .before .before .before .args .nx) (c .before .before .before .before .before .args .ny) (c .before .before .before .before .before .args .records .now) (sym (c .before .before .before .set-totals .ensures) ∙ ap toldTotalled (c .before .refusal .given .1)))
+    sym (bad-length (c .before .before .before .before .before .args .nx) (c .before .before .before .before .before .args .ny) (c .before .before .before .before .before .args .records .now) (λ ps. result (length ps)) (size (c .before .before)) (sym (c .before .length-is-valid .ensures) ∙ not-true (c .before .length-is-valid .result) (c .if2 .taken)))
+
+check-requires : tie.Need-check-requires
+check-requires c κs =
+    let l = length-limits (length (c .before .before .before .before .before .args .records .now)) (whole c) in
+    (size-limits (c .before .before .before .before .before .args .nx) (c .before .before .before .before .before .args .ny) (size (c .before .before)), l .count, omega arith)
+
+returns-3 : tie.Need-returns-3
+returns-3 c =
+    c .check .ensures
+    ∙ ap (λ a. andThen a (λ ps. result (length ps))) (sym (good-entry (c .before .before .before .before .before .before .args .nx) (c .before .before .before .before .before .before .args .ny) (c .before .before .before .before .before .before .args .records .now) (size (c .before .before .before)) (whole (c .before))))
 
 pub check-set-spec : {M : Type 1} → statement M
-check-set-spec = tie.close (tie.spec set-totals-requires enum-told enum-known-refusal returns returns-2)
+check-set-spec =
+    tie.close
+    (tie.spec size-is-valid-requires returns length-is-valid-requires returns-2 check-requires returns-3)

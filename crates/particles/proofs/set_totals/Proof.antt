@@ -21,14 +21,14 @@ size-is-valid-requires : tie.Need-size-is-valid-requires
 size-is-valid-requires c κs = search needs
 
 returns : tie.Need-returns
-returns c = sym (bad-size (c .before .before .before .args .nx) (c .before .before .before .args .ny) (c .before .before .before .args .records .now) (sym (c .before .size-is-valid .ensures) ∙ not-true (c .before .size-is-valid .result) (c .if1 .taken)))
+returns c = sym (bad-size (c .before .before .before .args .nx) (c .before .before .before .args .ny) (c .before .before .before .args .records .now) (λ ps. result (totalsOf ps)) (sym (c .before .size-is-valid .ensures) ∙ not-true (c .before .size-is-valid .result) (c .if1 .taken)))
 
 length-is-valid-requires : tie.Need-length-is-valid-requires
 length-is-valid-requires c κs = search needs
 
 returns-2 : tie.Need-returns-2
 returns-2 c =
-    sym (bad-length (c .before .before .before .before .before .args .nx) (c .before .before .before .before .before .args .ny) (c .before .before .before .before .before .args .records .now) (size (c .before .before)) (sym (c .before .length-is-valid .ensures) ∙ not-true (c .before .length-is-valid .result) (c .if2 .taken)))
+    sym (bad-length (c .before .before .before .before .before .args .nx) (c .before .before .before .before .before .args .ny) (c .before .before .before .before .before .args .records .now) (λ ps. result (totalsOf ps)) (size (c .before .before)) (sym (c .before .length-is-valid .ensures) ∙ not-true (c .before .length-is-valid .result) (c .if2 .taken)))
 
 walk-requires : tie.Need-walk-requires
 walk-requires c κs =

@@ -15,7 +15,8 @@ clear-requires-2 c κs = search needs
 
 add-all-requires : tie.Need-add-all-requires
 add-all-requires c κs =
-    set-ready (c .before .before .before .before .before .before .before .before .before .before .before .before .before .before .pre) (c .before .before .before .before .before .before .before .before .before .before .before .clear-masses .ensures) (c .before .before .before .before .before .before .before .clear .ensures) (c .before .before .before .before .clear2 .ensures)
+    let a = c .before .before .before .before .before .before .before .before .before .before .before .before .before .before .args in
+    set-ready (a .mass .now) (a .px .now) (a .py .now) (c .before .before .before .before .before .before .before .before .before .before .before .clear-masses .ensures) (c .before .before .before .before .before .before .before .clear .ensures) (c .before .before .before .before .clear2 .ensures) (c .before .before .before .before .before .before .before .before .before .before .before .before .before .before .pre)
 
 same-length : tie.Need-same-length
 same-length c = search needs
@@ -28,8 +29,9 @@ same-length-3 c = search needs
 
 returns : tie.Need-returns
 returns c =
-    scattered (c .before .before .before .before .before .before .before .before .before .before .before .before .before .before .before .before .before .before .before .pre) (c .before .before .before .before .before .before .before .before .before .before .before .before .before .before .before .before .clear-masses .ensures) (c .before .before .before .before .before .before .before .before .before .before .before .before .clear .ensures) (c .before .before .before .before .before .before .before .before .before .clear2 .ensures)
-    _ (c .before .before .before .before .add-all .ensures)
+    let a = c .before .before .before .before .before .before .before .before .before .before .before .before .before .before .before .before .before .before .before .args in
+    scattered (a .mass .now) (a .px .now) (a .py .now) (c .before .before .before .before .before .before .before .before .before .before .before .before .before .before .before .before .clear-masses .ensures) (c .before .before .before .before .before .before .before .before .before .before .before .before .clear .ensures) (c .before .before .before .before .before .before .before .before .before .clear2 .ensures)
+    (c .before .before .before .before .add-all .ensures)
 
 pub scatter-all-spec : {M : Type 1} → statement M
 scatter-all-spec =

@@ -4,7 +4,7 @@ use native.Mathlib.Omega.{arith}
 use lib.ListN.{length}
 use borrow.Author.Tests.{not-true, not-false}
 use borrow.Author.Needs.{needs}
-use Rattle.particles.specs.Set.{toldTotalled}
+use Rattle.particles.specs.Set.{toldChecked}
 use Rattle.particles.proofs.Checks.{size-limits, length-limits}
 use Rattle.update.proofs.Answers.{count-fits}
 use Rattle.simulation.specs.Step.{setIn}
@@ -69,8 +69,8 @@ returns-5 c =
     let s = c .before .before .before .before .before .before .before .before .before .before .before .before .before in
     too-many (s .args .settings) (s .args .steps) (s .args .records .now) (s .args .mass .now) (s .args .px .now) (s .args .py .now) (past (c .before)) (c .if5 .taken)
 
-walk-requires : tie.Need-walk-requires
-walk-requires c κs =
+check-requires : tie.Need-check-requires
+check-requires c κs =
     let s = c .before .before .before .before .before .before .before .before .before .before .before .before .before in
     let l = length-limits (length (s .args .records .now)) (past (c .before) .whole) in
     (size-limits (s .args .settings .nx) (s .args .settings .ny) (past (c .before) .size), l .count, omega arith)
@@ -84,13 +84,13 @@ enum-known-refusal c = search needs
 returns-6 : tie.Need-returns-6
 returns-6 c =
     let s = c .before .before .before .before .before .before .before .before .before .before .before .before .before .before .before .before in
-    set-done (setIn (s .args .settings) (s .args .records .now)) (ap toldTotalled (sym (c .enum-told .given .1)) ∙ c .before .before .walk .ensures)
+    set-done (setIn (s .args .settings) (s .args .records .now)) (ap toldChecked (sym (c .enum-told .given .1)) ∙ c .before .before .check .ensures)
     ∙ entry-set (s .args .settings) (s .args .steps) (s .args .records .now) (s .args .mass .now) (s .args .px .now) (s .args .py .now) (past (c .before .before .before .before)) (c .before .before .before .if5 .left)
 
 returns-7 : tie.Need-returns-7
 returns-7 c =
     let s = c .before .before .before .before .before .before .before .before .before .before .before .before .before .before .before .before .before in
-    set-refused (setIn (s .args .settings) (s .args .records .now)) (ap toldTotalled (sym (c .before .refusal .given .1)) ∙ c .before .before .before .walk .ensures)
+    set-refused (setIn (s .args .settings) (s .args .records .now)) (ap toldChecked (sym (c .before .refusal .given .1)) ∙ c .before .before .before .check .ensures)
     ∙ entry-set (s .args .settings) (s .args .steps) (s .args .records .now) (s .args .mass .now) (s .args .px .now) (s .args .py .now) (past (c .before .before .before .before .before)) (c .before .before .before .before .if5 .left)
 
 pub enter-spec : {M : Type 1} → statement M
@@ -107,7 +107,7 @@ enter-spec =
     gravity-in-range-requires
     returns-4
     returns-5
-    walk-requires
+    check-requires
     enum-told
     enum-known-refusal
     returns-6

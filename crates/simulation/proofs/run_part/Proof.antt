@@ -1,10 +1,9 @@
--- `simulation::run_part` meets its contract: a set fits the arrays. Assumes nothing.
+-- `simulation::run_part` meets its contract. Assumes nothing.
 use mathlib.Core.Path.{sym}
 use Prim.Native.Nat.{_*_}
+use lib.Seq.{length-take-le}
 use borrow.Author.Needs.{needs}
 use Rattle.particles.specs.Set.{recordCount}
-use Rattle.simulation.proofs.Runs.{part-room}
-use Rattle.simulation.proofs.Entry.{part-fits, part-length}
 use Rattle.simulation.proofs.run_part.Statement.{statement}
 use Rattle.simulation.proofs.run_part.Tie as tie
 
@@ -12,31 +11,27 @@ mul-size : tie.Need-mul-size
 mul-size c = search needs
 
 slice-relend-prefix-run-numbers : tie.Need-slice-relend-prefix-run-numbers
-slice-relend-prefix-run-numbers c =
-    let s = c .before .before .before .before .before .before in
-    part-fits (s .args .a .now) (part-room (s .pre .0)) (s .pre .1)
+slice-relend-prefix-run-numbers c = c .before .before .before .before .before .before .pre .1
 
 slice-aggregate-run-numbers : tie.Need-slice-aggregate-run-numbers
 slice-aggregate-run-numbers c =
     let s = c .before .before .before .before .before .before .before in
-    sym (part-length (10 * recordCount (s .args .records .now)) (s .args .a .now) (part-fits (s .args .a .now) (part-room (s .pre .0)) (s .pre .1)))
+    sym (length-take-le (10 * recordCount (s .args .records .now)) (s .args .a .now) (s .pre .1))
 
 slice-relend-prefix-run-numbers-2 : tie.Need-slice-relend-prefix-run-numbers-2
-slice-relend-prefix-run-numbers-2 c =
-    let s = c .before .before .before .before .before .before .before in
-    part-fits (s .args .b .now) (part-room (s .pre .0)) (s .pre .2)
+slice-relend-prefix-run-numbers-2 c = c .before .before .before .before .before .before .before .pre .2
 
 slice-aggregate-run-numbers-2 : tie.Need-slice-aggregate-run-numbers-2
 slice-aggregate-run-numbers-2 c =
     let s = c .before .before .before .before .before .before .before .before in
-    sym (part-length (10 * recordCount (s .args .records .now)) (s .args .b .now) (part-fits (s .args .b .now) (part-room (s .pre .0)) (s .pre .2)))
+    sym (length-take-le (10 * recordCount (s .args .records .now)) (s .args .b .now) (s .pre .2))
 
 run-numbers-requires : tie.Need-run-numbers-requires
 run-numbers-requires c κs =
     let s = c .before .before .before .before .before .before .before .before in (
       s .pre .0,
-      part-length (10 * recordCount (s .args .records .now)) (s .args .a .now) (part-fits (s .args .a .now) (part-room (s .pre .0)) (s .pre .1)),
-      part-length (10 * recordCount (s .args .records .now)) (s .args .b .now) (part-fits (s .args .b .now) (part-room (s .pre .0)) (s .pre .2)),
+      length-take-le (10 * recordCount (s .args .records .now)) (s .args .a .now) (s .pre .1),
+      length-take-le (10 * recordCount (s .args .records .now)) (s .args .b .now) (s .pre .2),
     )
 
 same-length : tie.Need-same-length

@@ -1,11 +1,11 @@
--- `transfer::check_entry` meets its contract: the checks at entry, in order, and then the walk. Assumes nothing.
+-- `transfer::check_entry` meets its contract: the checks at entry, in order, and then the set. Assumes nothing.
 use mathlib.Core.Path.{_≡_, sym, ap, _∙_}
 use mathlib.Core.Bool.{true}
 use Prim.Native.Nat.{_*_}
 use native.Mathlib.Omega.{arith}
 use lib.ListN.{length}
 use borrow.Author.Tests.{not-true, not-false}
-use Rattle.particles.specs.Set.{validSize, validLength, recordCount, setOf, totalsOf, toldTotalled}
+use Rattle.particles.specs.Set.{validSize, validLength, recordCount, setOf, toldChecked}
 use Rattle.particles.proofs.Checks.{size-limits, length-limits}
 use Rattle.update.specs.Checks.{lengthsAre}
 use Rattle.update.proofs.Answers.{count-fits}
@@ -46,8 +46,8 @@ lengths-are-requires c κs = search needs
 returns-3 : tie.Need-returns-3
 returns-3 c = sym (ap toldOf (bad-lengths _ _ _ _ (size (c .before .before .before .before)) (whole (c .before .before)) (sym (c .before .lengths-are .ensures) ∙ not-true _ (c .if3 .taken))))
 
-walk-requires : tie.Need-walk-requires
-walk-requires c κs =
+check-requires : tie.Need-check-requires
+check-requires c κs =
     let l = length-limits (length (c .before .before .before .before .before .before .before .args .records .now)) (whole (c .before .before)) in
     (size-limits _ _ (size (c .before .before .before .before)), l .count, omega arith)
 
@@ -60,12 +60,12 @@ enum-known-refusal c = search needs
 returns-4 : tie.Need-returns-4
 returns-4 c =
     let s = c .before .before .before .before .before .before .before .before .before .before .args in
-    sym (ap toldOf (entry (c .before .before .before)) ∙ told-done (setOf (s .nx) (s .ny) 0 (s .records .now) (recordCount (s .records .now))) totalsOf (sym (c .before .before .walk .ensures) ∙ ap toldTotalled (c .enum-told .given .1)))
+    sym (ap toldOf (entry (c .before .before .before)) ∙ told-done (setOf (s .nx) (s .ny) 0 (s .records .now) (recordCount (s .records .now))) length (sym (c .before .before .check .ensures) ∙ ap toldChecked (c .enum-told .given .1)))
 
 returns-5 : tie.Need-returns-5
 returns-5 c =
     let s = c .before .before .before .before .before .before .before .before .before .before .before .args in
-    sym (ap toldOf (entry (c .before .before .before .before) ∙ kept-refusal (setOf (s .nx) (s .ny) 0 (s .records .now) (recordCount (s .records .now))) totalsOf (sym (c .before .before .before .walk .ensures) ∙ ap toldTotalled (c .before .refusal .given .1))))
+    sym (ap toldOf (entry (c .before .before .before .before) ∙ kept-refusal (setOf (s .nx) (s .ny) 0 (s .records .now) (recordCount (s .records .now))) length (sym (c .before .before .before .check .ensures) ∙ ap toldChecked (c .before .refusal .given .1))))
 
 pub check-entry-spec : {M : Type 1} → statement M
 check-entry-spec =
@@ -78,7 +78,7 @@ check-entry-spec =
     mul-lengths-are
     lengths-are-requires
     returns-3
-    walk-requires
+    check-requires
     enum-told
     enum-known-refusal
     returns-4

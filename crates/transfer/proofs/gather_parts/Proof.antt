@@ -1,52 +1,233 @@
--- `transfer::gather_parts` meets its contract. Assumes nothing.
-use mathlib.Core.Path.{sym}
-use lib.Seq.{length-take-le}
-use Rattle.transfer.proofs.Entry.{room}
+-- `transfer::gather_parts` meets its contract. The loop's invariant is the walk's; the measure is what is left of the records.
+-- Assumes nothing.
+use mathlib.Core.Path.{_≡_, sym, ap, _∙_}
+use Prim.Native.Nat.{_+_, _-_, _*_, _/_}
+use native.Mathlib.Omega.{arith}
 use borrow.Author.Needs.{needs}
+use lib.ListN.{length}
+use lib.Seq.{length-take-le}
+use Rattle.gather_core.specs.Gather.{toldGathered}
+use Rattle.transfer.proofs.Moving.{Walk, start, part-ready, part-room, turn, stop, last}
+use Rattle.transfer.proofs.Parts.{part-bytes, rest-bytes, rest-inside, rest-all}
 use Rattle.transfer.proofs.gather_parts.Statement.{statement}
 use Rattle.transfer.proofs.gather_parts.Tie as tie
 
-mul-size : tie.Need-mul-size
-mul-size c = search needs
+abbrev Inv-loop : tie.InvT-loop
+Inv-loop nx ny records moved₀ from₀ to₀ table ux uy count k₀ moved from to k = Walk nx ny records ux uy moved k × (length from ≡ 640) × (length to ≡ 640)
 
-slice-relend-prefix-gather-numbers : tie.Need-slice-relend-prefix-gather-numbers
-slice-relend-prefix-gather-numbers c = room (c .before .before .args .nx) (c .before .before .args .ny) (c .before .before .args .records .now) (c .before .before .args .from .now) (c .before .before .pre .0 .set) (c .before .before .pre .1)
+abbrev μ-loop : tie.MeasureT-loop
+μ-loop nx ny records moved₀ from₀ to₀ table ux uy count k₀ moved from to k = count - k
 
-slice-aggregate-gather-numbers : tie.Need-slice-aggregate-gather-numbers
-slice-aggregate-gather-numbers c = sym (length-take-le _ _ (room (c .before .before .before .args .nx) (c .before .before .before .args .ny) (c .before .before .before .args .records .now) (c .before .before .before .args .from .now) (c .before .before .before .pre .0 .set) (c .before .before .before .pre .1)))
+loop-holds : tie.Need-loop-holds Inv-loop μ-loop
+loop-holds c =
+    let s = c .before .before in
+    (start (s .args .nx) (s .args .ny) (s .args .records .now) (s .args .ux .now) (s .args .uy .now) (s .args .moved .now) (s .pre .1 .bytes), s .pre .1 .source-numbers, s .pre .1 .target-numbers)
 
-slice-relend-prefix-gather-numbers-2 : tie.Need-slice-relend-prefix-gather-numbers-2
-slice-relend-prefix-gather-numbers-2 c = room (c .before .before .before .args .nx) (c .before .before .before .args .ny) (c .before .before .before .args .records .now) (c .before .before .before .args .to .now) (c .before .before .before .pre .0 .set) (c .before .before .before .pre .2)
+add-loop : tie.Need-add-loop Inv-loop μ-loop
+add-loop c = search needs
 
-slice-aggregate-gather-numbers-2 : tie.Need-slice-aggregate-gather-numbers-2
-slice-aggregate-gather-numbers-2 c = sym (length-take-le _ _ (room (c .before .before .before .before .args .nx) (c .before .before .before .before .args .ny) (c .before .before .before .before .args .records .now) (c .before .before .before .before .args .to .now) (c .before .before .before .before .pre .0 .set) (c .before .before .before .before .pre .2)))
+mul-at : tie.Need-mul-at Inv-loop μ-loop
+mul-at c = search needs
 
-gather-numbers-requires : tie.Need-gather-numbers-requires
-gather-numbers-requires c κs = (c .before .before .before .before .pre .0, length-take-le _ _ (room (c .before .before .before .before .args .nx) (c .before .before .before .before .args .ny) (c .before .before .before .before .args .records .now) (c .before .before .before .before .args .from .now) (c .before .before .before .before .pre .0 .set) (c .before .before .before .before .pre .1)), length-take-le _ _ (room (c .before .before .before .before .args .nx) (c .before .before .before .before .args .ny) (c .before .before .before .before .args .records .now) (c .before .before .before .before .args .to .now) (c .before .before .before .before .pre .0 .set) (c .before .before .before .before .pre .2)))
+add-gather-part : tie.Need-add-gather-part Inv-loop μ-loop
+add-gather-part c = search needs
 
-same-length : tie.Need-same-length
+sub-gather-part : tie.Need-sub-gather-part Inv-loop μ-loop
+sub-gather-part c = search needs
+
+part-gather-part-start : tie.Need-part-gather-part-start Inv-loop μ-loop
+part-gather-part-start c = search needs
+
+part-gather-part-end : tie.Need-part-gather-part-end Inv-loop μ-loop
+part-gather-part-end c = search needs
+
+add-gather-part-2 : tie.Need-add-gather-part-2 Inv-loop μ-loop
+add-gather-part-2 c = search needs
+
+sub-gather-part-2 : tie.Need-sub-gather-part-2 Inv-loop μ-loop
+sub-gather-part-2 c = search needs
+
+part-gather-part-start-2 : tie.Need-part-gather-part-start-2 Inv-loop μ-loop
+part-gather-part-start-2 c = search needs
+
+part-gather-part-end-2 : tie.Need-part-gather-part-end-2 Inv-loop μ-loop
+part-gather-part-end-2 c = search needs
+
+gather-part-requires : tie.Need-gather-part-requires Inv-loop μ-loop
+gather-part-requires c κs =
+    let l = c .before .before .before .before .before in
+    let s = l .before .before .before in
+    let k = l .loop .k in
+    let w = l .loop .inv .0 in
+    let m = 14 * k + 896 - 14 * k in
+    let inside = c .before .before .before .before .loop-test .taken in
+    (part-ready (s .pre .0) w 64 m (part-bytes k) inside, part-room (s .pre .0) w 64 m (part-bytes k) inside m (part-bytes k) (l .loop .inv .1) (l .loop .inv .2))
+
+enum-told : tie.Need-enum-told Inv-loop μ-loop
+enum-told c = search needs
+
+enum-known-refusal : tie.Need-enum-known-refusal Inv-loop μ-loop
+enum-known-refusal c = search needs
+
+same-length : tie.Need-same-length Inv-loop μ-loop
 same-length c = search needs
 
-same-length-2 : tie.Need-same-length-2
+same-length-2 : tie.Need-same-length-2 Inv-loop μ-loop
 same-length-2 c = search needs
 
-same-length-3 : tie.Need-same-length-3
+same-length-3 : tie.Need-same-length-3 Inv-loop μ-loop
 same-length-3 c = search needs
 
-returns : tie.Need-returns
-returns c = search needs
+returns : tie.Need-returns Inv-loop μ-loop
+returns c =
+    let r = c .before .before .before .before .before .before .before in
+    let l = r .before .before .before .before .before .before in
+    let k = l .loop .k in
+    let m = 14 * k + 896 - 14 * k in
+    stop (l .before .before .before .pre .0) (l .loop .inv .0) 64 m (part-bytes k) (r .before .before .before .before .before .loop-test .taken) m (part-bytes k) (r .gather-part .ensures) (r .gather-part .kept .1 .1 .1 .1 .0) (c .before .refusal .given .1)
+
+add-k : tie.Need-add-k Inv-loop μ-loop
+add-k c = search needs
+
+loop-less : tie.Need-loop-less Inv-loop μ-loop
+loop-less c = search needs
+
+loop-again : tie.Need-loop-again Inv-loop μ-loop
+loop-again c =
+    let r = c .before .before .before .before .before .before in
+    let l = r .before .before .before .before .before .before in
+    let k = l .loop .k in
+    let m = 14 * k + 896 - 14 * k in (
+      turn (l .before .before .before .pre .0) (l .loop .inv .0) 64 m (part-bytes k) (r .before .before .before .before .before .loop-test .taken) m (part-bytes k) (r .gather-part .ensures) (r .gather-part .kept .1 .1 .1 .1 .0) (ap toldGathered (c .enum-told .given .1)),
+      r .gather-part .kept .1 .1 .1 .1 .1 .0 ∙ l .loop .inv .1,
+      r .gather-part .kept .1 .1 .1 .1 .1 .1 .0 ∙ l .loop .inv .2,
+    )
+
+mul-at-2 : tie.Need-mul-at-2 Inv-loop μ-loop
+mul-at-2 c = search needs
+
+sub-size : tie.Need-sub-size Inv-loop μ-loop
+sub-size c = search needs
+
+mul-size : tie.Need-mul-size Inv-loop μ-loop
+mul-size c = search needs
+
+sub-gather-part-3 : tie.Need-sub-gather-part-3 Inv-loop μ-loop
+sub-gather-part-3 c = search needs
+
+part-gather-part-start-3 : tie.Need-part-gather-part-start-3 Inv-loop μ-loop
+part-gather-part-start-3 c = search needs
+
+part-gather-part-end-3 : tie.Need-part-gather-part-end-3 Inv-loop μ-loop
+part-gather-part-end-3 c = search needs
+
+sub-gather-part-4 : tie.Need-sub-gather-part-4 Inv-loop μ-loop
+sub-gather-part-4 c = search needs
+
+part-gather-part-start-4 : tie.Need-part-gather-part-start-4 Inv-loop μ-loop
+part-gather-part-start-4 c = search needs
+
+part-gather-part-end-4 : tie.Need-part-gather-part-end-4 Inv-loop μ-loop
+part-gather-part-end-4 c = search needs
+
+slice-relend-prefix-gather-part : tie.Need-slice-relend-prefix-gather-part Inv-loop μ-loop
+slice-relend-prefix-gather-part c = search needs
+
+slice-aggregate-gather-part : tie.Need-slice-aggregate-gather-part Inv-loop μ-loop
+slice-aggregate-gather-part c =
+    let l = c .before .before .before .before in
+    sym (length-take-le (10 * (length (l .before .before .before .args .records .now) / 14 - l .loop .k)) (l .loop .from) (omega arith))
+
+slice-relend-prefix-gather-part-2 : tie.Need-slice-relend-prefix-gather-part-2 Inv-loop μ-loop
+slice-relend-prefix-gather-part-2 c = search needs
+
+slice-aggregate-gather-part-2 : tie.Need-slice-aggregate-gather-part-2 Inv-loop μ-loop
+slice-aggregate-gather-part-2 c =
+    let l = c .before .before .before .before .before in
+    sym (length-take-le (10 * (length (l .before .before .before .args .records .now) / 14 - l .loop .k)) (l .loop .to) (omega arith))
+
+gather-part-requires-2 : tie.Need-gather-part-requires-2 Inv-loop μ-loop
+gather-part-requires-2 c κs =
+    let l = c .before .before .before .before .before in
+    let s = l .before .before .before in
+    let k = l .loop .k in
+    let w = l .loop .inv .0 in
+    let b = length (s .args .records .now) in
+    let n = b / 14 - k in
+    let bytes = rest-bytes b k (s .pre .1 .whole) in
+    let bytes′ = ap (λ x. x - 14 * k) (w .bytes) ∙ bytes in
+    let inside = rest-inside (b / 14) k (w .within) in (
+      part-ready (s .pre .0) w n (b - 14 * k) bytes inside,
+      part-room (s .pre .0) w n (b - 14 * k) bytes inside (length (l .loop .moved) - 14 * k) bytes′
+          (length-take-le (10 * n) (l .loop .from) (omega arith))
+          (length-take-le (10 * n) (l .loop .to) (omega arith)),
+    )
+
+same-length-4 : tie.Need-same-length-4 Inv-loop μ-loop
+same-length-4 c = search needs
+
+same-length-5 : tie.Need-same-length-5 Inv-loop μ-loop
+same-length-5 c = search needs
+
+same-length-6 : tie.Need-same-length-6 Inv-loop μ-loop
+same-length-6 c = search needs
+
+returns-2 : tie.Need-returns-2 Inv-loop μ-loop
+returns-2 c =
+    let r = c .before .before .before .before in
+    let l = r .before .before .before .before .before .before in
+    let s = l .before .before .before in
+    let k = l .loop .k in
+    let w = l .loop .inv .0 in
+    let b = length (s .args .records .now) in
+    let n = b / 14 - k in
+    let bytes = rest-bytes b k (s .pre .1 .whole) in
+    let bytes′ = ap (λ x. x - 14 * k) (w .bytes) ∙ bytes in
+    let inside = rest-inside (b / 14) k (w .within) in
+    last (s .pre .0) w n (b - 14 * k) bytes inside (length (l .loop .moved) - 14 * k) bytes′ (r .gather-part2 .ensures) (r .gather-part2 .kept .1 .1 .1 .1 .0) (rest-all (b / 14) k) (s .pre .1 .whole)
 
 pub gather-parts-spec : {M : Type 1} → statement M
 gather-parts-spec =
     tie.close
     (tie.spec
-    mul-size
-    slice-relend-prefix-gather-numbers
-    slice-aggregate-gather-numbers
-    slice-relend-prefix-gather-numbers-2
-    slice-aggregate-gather-numbers-2
-    gather-numbers-requires
+    Inv-loop
+    μ-loop
+    loop-holds
+    add-loop
+    mul-at
+    add-gather-part
+    sub-gather-part
+    part-gather-part-start
+    part-gather-part-end
+    add-gather-part-2
+    sub-gather-part-2
+    part-gather-part-start-2
+    part-gather-part-end-2
+    gather-part-requires
+    enum-told
+    enum-known-refusal
     same-length
     same-length-2
     same-length-3
-    returns)
+    returns
+    add-k
+    loop-less
+    loop-again
+    mul-at-2
+    sub-size
+    mul-size
+    sub-gather-part-3
+    part-gather-part-start-3
+    part-gather-part-end-3
+    sub-gather-part-4
+    part-gather-part-start-4
+    part-gather-part-end-4
+    slice-relend-prefix-gather-part
+    slice-aggregate-gather-part
+    slice-relend-prefix-gather-part-2
+    slice-aggregate-gather-part-2
+    gather-part-requires-2
+    same-length-4
+    same-length-5
+    same-length-6
+    returns-2)

@@ -1,19 +1,24 @@
 -- `update::check_nodes` meets its contract. The invariant: the walk from node k on gives the whole walk's answer.
 -- The measure is the number of nodes left. Assumes nothing.
 use mathlib.Core.Path.{_≡_, sym, ap, ap₂, _∙_}
+use mathlib.Core.Bool.{Bool, true}
 use mathlib.Core.List.{List}
+use mathlib.Core.Logic.{⊎-elim}
 use Prim.Native.Nat.{ℕ, _-_, _≤_}
 use native.Mathlib.Omega.{arith}
 use lib.ListN.{getD}
-use lib.IntN.{ℤ, pos}
+use lib.IntN.{ℤ, pos, natAbs}
 use mir.Syntax.{w64}
 use mir.Val.{SFits, toZ, ofZ}
 use mir.Facts.{toZ-ofZ}
 use borrow.Author.Needs.{needs, sfits-of}
+use borrow.Author.Tests.{not-false}
 use Rattle.refusal.specs.Refused.{Answer}
-use Rattle.update.specs.Checks.{forEach}
+use Rattle.update.specs.Checks.{forEach, done}
 use Rattle.update.specs.Update.{checkNode, checkNodeAt, checkNodes, toldUpdate}
+use Rattle.update.specs.Internal.{isCalm}
 use Rattle.update.proofs.Walk.{walk-start, walk-on, walk-ends, each-end}
+use Rattle.update.proofs.Calm.{calm-passes}
 use Rattle.update.proofs.check_nodes.Statement.{statement}
 use Rattle.update.proofs.check_nodes.Tie as tie
 
@@ -26,6 +31,12 @@ module _ (n : ℕ) (gx gy : ℤ) (mass : List ℕ) (px py : List ℤ) (gx-fits :
 at-node : {told : Answer Unit} (gx gy : ℤ) (mass : List ℕ) (px py : List ℤ) (k : ℕ) → SFits w64 (getD px k (pos 0)) → SFits w64 (getD py k (pos 0)) → told ≡ checkNode gx gy k (getD mass k 0) (toZ w64 (ofZ w64 (getD px k (pos 0)))) (toZ w64 (ofZ w64 (getD py k (pos 0)))) → checkNodeAt gx gy mass px py k ≡ told
 at-node gx gy mass px py k f g e = ap₂ (λ x y. checkNode gx gy k (getD mass k 0) x y) (sym (toZ-ofZ f)) (sym (toZ-ofZ g)) ∙ sym e
 
+-- .. and `node::is_calm`
+at-calm : {r : Bool} (gx gy : ℤ) (mass : List ℕ) (px py : List ℤ) (k : ℕ) → natAbs gx ≤ 4096 → natAbs gy ≤ 4096 → SFits w64 (getD px k (pos 0)) → SFits w64 (getD py k (pos 0)) → r ≡ isCalm (getD mass k 0) (toZ w64 (ofZ w64 (getD px k (pos 0)))) (toZ w64 (ofZ w64 (getD py k (pos 0)))) → r ≡ true → checkNodeAt gx gy mass px py k ≡ done
+at-calm gx gy mass px py k hx hy f g e t =
+    calm-passes gx gy k (getD mass k 0) (getD px k (pos 0)) (getD py k (pos 0)) hx hy
+    (ap₂ (λ x y. isCalm (getD mass k 0) x y) (sym (toZ-ofZ f)) (sym (toZ-ofZ g)) ∙ sym e ∙ t)
+
 abbrev Inv-loop : tie.InvT-loop
 Inv-loop count gx gy mass px py k₀ k = (k ≤ count) × (checkNodes count (toZ w64 gx) (toZ w64 gy) mass px py ≡ forEach (checkNodeAt (toZ w64 gx) (toZ w64 gy) mass px py) k (count - k))
 
@@ -34,6 +45,27 @@ abbrev μ-loop : tie.MeasureT-loop
 
 loop-holds : tie.Need-loop-holds Inv-loop μ-loop
 loop-holds c = (omega arith, walk-start _ _ _ _ _ _)
+
+mul-is-calm : tie.Need-mul-is-calm Inv-loop μ-loop
+mul-is-calm c = omega arith
+
+shared-slice-read-is-calm : tie.Need-shared-slice-read-is-calm Inv-loop μ-loop
+shared-slice-read-is-calm c = omega arith
+
+mul-is-calm-2 : tie.Need-mul-is-calm-2 Inv-loop μ-loop
+mul-is-calm-2 c = omega arith
+
+shared-slice-copy-out-is-calm : tie.Need-shared-slice-copy-out-is-calm Inv-loop μ-loop
+shared-slice-copy-out-is-calm c = omega arith
+
+mul-is-calm-3 : tie.Need-mul-is-calm-3 Inv-loop μ-loop
+mul-is-calm-3 c = omega arith
+
+shared-slice-copy-out-is-calm-2 : tie.Need-shared-slice-copy-out-is-calm-2 Inv-loop μ-loop
+shared-slice-copy-out-is-calm-2 c = omega arith
+
+is-calm-requires : tie.Need-is-calm-requires Inv-loop μ-loop
+is-calm-requires c κs = search needs
 
 mul-check : tie.Need-mul-check Inv-loop μ-loop
 mul-check c = omega arith
@@ -55,18 +87,20 @@ shared-slice-copy-out-check-2 c = omega arith
 
 check-requires : tie.Need-check-requires Inv-loop μ-loop
 check-requires c κs =
-    let s = c .before .before .before .before .before .before in
+    let s = c .before .before .before .before .before .before .before .before .before .before .before in
     (rw (toZ-ofZ (s .fits .gx)) (s .pre .1 .0), rw (toZ-ofZ (s .fits .gy)) (s .pre .1 .1))
 
 enum-told : tie.Need-enum-told Inv-loop μ-loop
 enum-told c = search needs
 
-enum-known-checked : tie.Need-enum-known-checked Inv-loop μ-loop
-enum-known-checked c = search needs
+enum-known-refusal : tie.Need-enum-known-refusal Inv-loop μ-loop
+enum-known-refusal c = search needs
 
 returns : tie.Need-returns Inv-loop μ-loop
 returns c =
-    let l = c .before .before .before .before .before .before .before .before in
+    let checked = c .before .before .before in
+    let t = checked .before .before .before .before .before .before .before .before .before in
+    let l = t .before in
     let s = l .before .before in
     let gx = toZ w64 (ofZ w64 (s .args .gx)) in
     let gy = toZ w64 (ofZ w64 (s .args .gy)) in
@@ -74,9 +108,8 @@ returns c =
     let px = s .args .px .now in
     let py = s .args .py .now in
     let k = l .loop .k in
-    let checked = c .before .before .before in
-    sym (walk-ends (s .args .count) gx gy mass px py k _ _ (c .before .before .before .before .before .before .before .loop-test .taken)
-    (at-node gx gy mass px py k (sfits-of (checked .before .before .check-arg .given)) (sfits-of (checked .before .check-arg2 .given)) (checked .check .ensures) ∙ ap toldUpdate (c .before .checked .given .1)))
+    sym (walk-ends (s .args .count) gx gy mass px py k _ _ (t .loop-test .taken)
+    (at-node gx gy mass px py k (sfits-of (checked .before .before .check-arg .given)) (sfits-of (checked .before .check-arg2 .given)) (checked .check .ensures) ∙ ap toldUpdate (c .before .refusal .given .1)))
     ∙ sym (l .loop .inv .1)
     ∙ given (s .args .count) (s .args .gx) (s .args .gy) mass px py (s .fits .gx) (s .fits .gy)
 
@@ -88,7 +121,9 @@ loop-less c = omega arith
 
 loop-again : tie.Need-loop-again Inv-loop μ-loop
 loop-again c =
-    let l = c .before .before .before .before .before .before .before in
+    let calm = c .before in
+    let t = calm .before .before .before .before in
+    let l = t .before in
     let s = l .before .before in
     let gx = toZ w64 (ofZ w64 (s .args .gx)) in
     let gy = toZ w64 (ofZ w64 (s .args .gy)) in
@@ -96,11 +131,19 @@ loop-again c =
     let px = s .args .px .now in
     let py = s .args .py .now in
     let k = l .loop .k in
-    let checked = c .before .before in (
+    -- the node passed its check, or is calm
+    let passes =
+    ⊎-elim
+    (λ a. at-node gx gy mass px py k (sfits-of (a .2 .given)) (sfits-of (a .3 .given)) (a .4 .ensures) ∙ ap toldUpdate (a .6 .given .1))
+    (λ b.
+    at-calm gx gy mass px py k (rw (toZ-ofZ (s .fits .gx)) (s .pre .1 .0)) (rw (toZ-ofZ (s .fits .gy)) (s .pre .1 .1))
+    (sfits-of (calm .before .before .is-calm-arg .given))
+    (sfits-of (calm .before .is-calm-arg2 .given))
+    (calm .is-calm .ensures)
+    (not-false _ (b .left)))
+    (c .if1 .came) in (
       omega arith,
-      l .loop .inv .1
-          ∙ walk-on (s .args .count) gx gy mass px py k (c .before .before .before .before .before .before .loop-test .taken)
-          (at-node gx gy mass px py k (sfits-of (checked .before .before .check-arg .given)) (sfits-of (checked .before .check-arg2 .given)) (checked .check .ensures) ∙ ap toldUpdate (c .enum-told .given .1)),
+      l .loop .inv .1 ∙ walk-on (s .args .count) gx gy mass px py k (t .loop-test .taken) passes,
     )
 
 returns-2 : tie.Need-returns-2 Inv-loop μ-loop
@@ -117,6 +160,13 @@ check-nodes-spec =
     Inv-loop
     μ-loop
     loop-holds
+    mul-is-calm
+    shared-slice-read-is-calm
+    mul-is-calm-2
+    shared-slice-copy-out-is-calm
+    mul-is-calm-3
+    shared-slice-copy-out-is-calm-2
+    is-calm-requires
     mul-check
     shared-slice-read-check
     mul-check-2
@@ -125,7 +175,7 @@ check-nodes-spec =
     shared-slice-copy-out-check-2
     check-requires
     enum-told
-    enum-known-checked
+    enum-known-refusal
     returns
     add-k
     loop-less

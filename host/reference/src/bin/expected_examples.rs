@@ -1,44 +1,26 @@
 //! Writes what the program `examples` must print: the same calls of step and run, by the literal sums.
 
 use reference::limits::RECORD_LENGTH;
-use reference::{read_record, run, step, write_record, Grid, Particle, Refusal, Settings, Size};
+use reference::lines::{bytes, numbers, refused};
+use reference::particle_set::pack_records;
+use reference::{read_record, run, step, Grid, Particle, Refusal, Settings, Size};
 
 fn show_record(record: &[u8]) {
     match read_record(record) {
-        Ok(p) => println!(
-            " {} {} {} {} {} {} {} {} {} {}",
-            p.identifier, p.mass, p.x, p.y, p.vx, p.vy, p.bxx, p.bxy, p.byx, p.byy
-        ),
-        Err(_) => {
-            for byte in record {
-                print!("{byte:02x}");
-            }
-            println!();
-        }
+        Ok(particle) => println!("{}", numbers(&particle.fields())),
+        Err(_) => println!("{}", bytes(record)),
     }
 }
 
 fn show_left(records: &[u8], grid: &Grid) {
-    for record in records.chunks(RECORD_LENGTH) {
-        show_record(record);
-    }
-    for mass in &grid.mass {
-        print!(" {mass}");
-    }
-    println!();
-    for velocities in [&grid.x, &grid.y] {
-        for velocity in velocities {
-            print!(" {velocity}");
-        }
-        println!();
-    }
+    records.chunks(RECORD_LENGTH).for_each(show_record);
+    println!("{}", numbers(&grid.mass));
+    println!("{}", numbers(&grid.x));
+    println!("{}", numbers(&grid.y));
 }
 
 fn show_refusal(refusal: Option<Refusal>) {
-    match refusal {
-        None => println!(),
-        Some(refusal) => println!(" refused {} at {}", refusal.number, refusal.place),
-    }
+    println!("{}", refusal.map_or_else(String::new, refused));
 }
 
 fn stepping(settings: Settings, records: &mut [u8], grid: &mut Grid) {
@@ -72,7 +54,7 @@ fn both(settings: Settings, steps: i128, records: &mut [u8], grid: &mut Grid) {
     running(settings, steps, records, grid);
 }
 
-fn refused(settings: Settings, steps: i128, records: &mut [u8]) {
+fn refusing(settings: Settings, steps: i128, records: &mut [u8]) {
     both(settings, steps, records, &mut fresh());
 }
 
@@ -80,36 +62,18 @@ fn particle(identifier: u16, mass: i128, x: i128, y: i128, vx: i128, vy: i128) -
     Particle::at_rest(identifier, mass, x, y).moving(vx, vy)
 }
 
-fn set(particles: &[Particle]) -> Vec<u8> {
-    let mut records = vec![0; RECORD_LENGTH * particles.len()];
-    for (p, record) in particles.iter().zip(records.chunks_mut(RECORD_LENGTH)) {
-        write_record(p, record).expect("a valid particle");
-    }
-    records
-}
-
 fn wider(steps: i128, records: &mut [u8]) {
     let grid = &mut Grid::filled(20, 7, 8, -8);
     running(sized(5, 4, 0, 0), steps, records, grid);
 }
 
-/// A record of ten fields, valid or not.
-fn packed(fields: [u128; 10]) -> Vec<u8> {
-    let widths = [16, 10, 12, 12, 7, 7, 12, 12, 12, 12];
-    let number = fields
-        .iter()
-        .zip(widths)
-        .fold(0u128, |number, (field, width)| (number << width) | field);
-    number.to_be_bytes()[2..].to_vec()
-}
-
 fn refusals() {
     let mut short = b"thirteen byte".to_vec();
-    refused(sized(3, 4, 4097, 0), 10001, &mut short);
-    refused(sized(4, 49, 0, 0), 0, &mut short);
+    refusing(sized(3, 4, 4097, 0), 10001, &mut short);
+    refusing(sized(4, 49, 0, 0), 0, &mut short);
     let mut zero = vec![0u8; RECORD_LENGTH];
     let fast = gravity(4097, 0);
-    refused(fast, 10001, &mut short);
+    refusing(fast, 10001, &mut short);
     for (masses, xs, ys, y) in [(15, 16, 16, -8), (16, 15, 16, -8), (16, 16, 15, 8)] {
         let mut grid = Grid {
             mass: vec![7; masses],
@@ -118,30 +82,29 @@ fn refusals() {
         };
         both(fast, 0, &mut zero, &mut grid);
     }
-    refused(gravity(4097, 0), 10001, &mut zero);
-    refused(gravity(0, -4097), 0, &mut zero);
+    refusing(gravity(4097, 0), 10001, &mut zero);
+    refusing(gravity(0, -4097), 0, &mut zero);
     running(gravity(0, 0), 10001, &mut zero, &mut fresh());
-    let mut two = set(&[particle(1, 1, 64, 64, 1, 1)]);
+    let mut two = pack_records(&[particle(1, 1, 64, 64, 1, 1)]);
     two.extend([0u8; RECORD_LENGTH]);
-    refused(gravity(0, 0), 0, &mut two);
-    let mut fields = [1, 1, 64, 64, 0, 64, 0x800, 0, 0, 0];
-    refused(gravity(0, 0), 1, &mut packed(fields));
-    fields[5] = 0;
-    refused(gravity(0, 0), 1, &mut packed(fields));
+    refusing(gravity(0, 0), 0, &mut two);
+    let steep = particle(1, 1, 64, 64, 0, 0).with_b([-2048, 0, 0, 0]);
+    refusing(gravity(0, 0), 1, &mut steep.moving(0, -64).pack());
+    refusing(gravity(0, 0), 1, &mut steep.pack());
     let first = particle(2, 1, 64, 64, 1, 1);
     let off = particle(1, 1, 64, 160, 1, 1);
-    refused(gravity(0, 0), 0, &mut set(&[first, off]));
+    refusing(gravity(0, 0), 0, &mut pack_records(&[first, off]));
     let repeated = particle(2, 1, 64, 159, 1, 1);
-    refused(gravity(0, 0), 10000, &mut set(&[first, repeated]));
+    refusing(gravity(0, 0), 10000, &mut pack_records(&[first, repeated]));
 }
 
 fn alone(p: Particle, gx: i128, steps: i128) {
-    running(gravity(gx, 0), steps, &mut set(&[p]), &mut fresh());
+    running(gravity(gx, 0), steps, &mut pack_records(&[p]), &mut fresh());
 }
 
 fn together(m: i128, v: i128, n: i128, w: i128) {
     let particles = [particle(1, m, 64, 64, v, 0), particle(2, n, 64, 64, w, 0)];
-    stepping(gravity(0, 0), &mut set(&particles), &mut fresh());
+    stepping(gravity(0, 0), &mut pack_records(&particles), &mut fresh());
 }
 
 fn document() {
@@ -159,8 +122,8 @@ fn runs() {
         particle(1, 10, 64, 64, 5, 3),
         particle(2, 4, 100, 77, -3, 1),
     ];
-    stepping(gravity(100, -60), &mut set(&pair), &mut fresh());
-    let mut other = set(&pair);
+    stepping(gravity(100, -60), &mut pack_records(&pair), &mut fresh());
+    let mut other = pack_records(&pair);
     running(gravity(100, -60), 1, &mut other, &mut fresh());
     running(gravity(100, -60), 0, &mut other, &mut fresh());
     running(gravity(0, 0), 0, &mut [], &mut fresh());
@@ -169,24 +132,29 @@ fn runs() {
         alone(particle(1, 1, 64, 64, 10, 0), 0, steps);
     }
     let last = particle(1, 1, 154, 64, 10, 0);
-    stepping(gravity(0, 0), &mut set(&[last]), &mut fresh());
+    stepping(gravity(0, 0), &mut pack_records(&[last]), &mut fresh());
     alone(particle(1, 1, 32, 64, 10, 0), 4096, 4);
     let steep = [
         particle(1, 7, 80, 90, 56, -46).with_b([1953, -1406, -1988, -1081]),
         particle(2, 5, 72, 82, -29, -1).with_b([-291, -1739, -1970, -1771]),
     ];
-    running(gravity(0, 0), 3, &mut set(&steep), &mut fresh());
-    let mut mixed = set(&[pair[0], particle(2, 4, 140, 77, 9, 1)]);
+    running(gravity(0, 0), 3, &mut pack_records(&steep), &mut fresh());
+    let mut mixed = pack_records(&[pair[0], particle(2, 4, 140, 77, 9, 1)]);
     running(gravity(0, 0), 2, &mut mixed, &mut fresh());
     running(gravity(0, 0), 9, &mut mixed, &mut fresh());
     wider(3, &mut mixed);
-    refused(gravity(0, 0), 1, &mut mixed);
+    refusing(gravity(0, 0), 1, &mut mixed);
     wider(4, &mut mixed);
     let turning = [
         particle(1, 1000, 64, 64, 0, 0).with_b([0, -10, 10, 0]),
         particle(2, 9, 120, 100, 0, 0).with_b([0, 5, -5, 0]),
     ];
-    running(gravity(0, 0), 1000, &mut set(&turning), &mut fresh());
+    running(
+        gravity(0, 0),
+        1000,
+        &mut pack_records(&turning),
+        &mut fresh(),
+    );
 }
 
 fn main() {

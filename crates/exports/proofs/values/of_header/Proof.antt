@@ -2,9 +2,9 @@
 use borrow.Author.Needs.{needs}
 use native.Mathlib.Omega.{arith}
 use mathlib.Core.List.{[], _∷_}
-use mir.Syntax.{w64}
+use mir.Syntax.{w16, w64}
 use mir.Facts.{toZ-pos}
-use Rattle.packing.proofs.Widths.{widened, widened-fits}
+use Rattle.arith.specs.Machine.{widened, widened-fits}
 use Rattle.exports.proofs.values.of_header.Statement.{statement}
 use Rattle.exports.proofs.values.of_header.Tie as tie
 
@@ -15,10 +15,10 @@ cast-t3 : tie.Need-cast-t3
 cast-t3 c = search needs
 
 cast-t4 : tie.Need-cast-t4
-cast-t4 c = widened-fits (c .before .before .before .before .args .h .gx) (c .struct-told .given .1 .1 .0 .1)
+cast-t4 c = widened-fits w16 w64 tt (c .before .before .before .before .args .h .gx) (c .struct-told .given .1 .1 .0 .1)
 
 cast-t5 : tie.Need-cast-t5
-cast-t5 c = widened-fits (c .before .before .before .before .before .before .args .h .gy) (c .struct-told2 .given .1 .1 .1 .0 .1)
+cast-t5 c = widened-fits w16 w64 tt (c .before .before .before .before .before .before .args .h .gy) (c .struct-told2 .given .1 .1 .1 .0 .1)
 
 cast-t6 : tie.Need-cast-t6
 cast-t6 c = search needs
@@ -34,8 +34,8 @@ returns c =
     λ i.
     toZ-pos w64 {n = h .nx} (omega (arith, small .nx)) i
     ∷ toZ-pos w64 {n = h .ny} (omega (arith, small .ny)) i
-    ∷ widened (h .gx) (fits .1 .1 .0 .1) i
-    ∷ widened (h .gy) (fits .1 .1 .1 .0 .1) i
+    ∷ widened w16 w64 tt (h .gx) (fits .1 .1 .0 .1) i
+    ∷ widened w16 w64 tt (h .gy) (fits .1 .1 .1 .0 .1) i
     ∷ toZ-pos w64 {n = h .count} (omega (arith, small .count)) i
     ∷ toZ-pos w64 {n = h .steps} (omega (arith, small .steps)) i
     ∷ []

@@ -1,18 +1,19 @@
 -- `update::checks::within` meets its contract. Assumes nothing.
-use mathlib.Core.Path.{_≡_, sym, ap₂, _∙_, subst}
+use mathlib.Core.Path.{_≡_, sym, ap₂, _∙_}
 use lib.Dec.{T}
 use lib.IntN.{ℤ, pos, negℤ, _-ℤ_}
 use lib.Signed.{leZ, nonNeg}
 use mir.Syntax.{w64}
 use mir.Val.{SFits, toZ, ofZ}
 use mir.Facts.{toZ-ofZ}
+use Rattle.arith.specs.Machine.{same-fits}
 use Rattle.update.proofs.Tests.{negative-fits, negative-is, at-least, too-low}
 use Rattle.update.proofs.checks.within.Statement.{statement}
 use Rattle.update.proofs.checks.within.Tie as tie
 
 module _ (most number : ℤ) (positive : T (nonNeg most)) (fits-most : SFits w64 most) (fits-number : SFits w64 number) where
   low-fits : SFits w64 (pos 0 -ℤ toZ w64 (ofZ w64 most))
-  low-fits = subst (SFits w64) (sym (negative-is fits-most)) (negative-fits most positive fits-most)
+  low-fits = same-fits (negative-is fits-most) (negative-fits most positive fits-most)
 
   low-test : leZ (toZ w64 (ofZ w64 (pos 0 -ℤ toZ w64 (ofZ w64 most)))) (toZ w64 (ofZ w64 number)) ≡ leZ (negℤ most) number
   low-test = ap₂ leZ (toZ-ofZ low-fits ∙ negative-is fits-most) (toZ-ofZ fits-number)

@@ -1,5 +1,5 @@
 -- `update::node::velocity` meets its contract. Assumes nothing.
-use mathlib.Core.Path.{_≡_, refl, sym, ap, ap₂, _∙_}
+use mathlib.Core.Path.{_≡_, refl, sym, ap, _∙_}
 use Prim.Native.Nat.{ℕ, zero, suc, _*_, _^_, _≤_}
 use lib.IntN.{ℤ, pos, natAbs, _+ℤ_}
 use mir.Syntax.{w64}
@@ -7,6 +7,7 @@ use mir.Val.{SFits, toZ, ofZ}
 use mir.Facts.{toZ-ofZ}
 use borrow.Author.Needs.{needs}
 use Rattle.arith.specs.Size.{Bound, sizes, fits}
+use Rattle.arith.specs.Machine.{fits₂, result₂}
 use Rattle.arith.specs.Rounding.{nearest, halvesAway}
 use Rattle.apic.specs.Step.{nodeVelocity}
 use Rattle.update.specs.Update.{velocityOf}
@@ -37,10 +38,10 @@ module _ (r g : ℤ) (r-small : natAbs r ≤ 2 ^ 62) (g-small : natAbs g ≤ 409
   sum-fits = fits (search (sizes, r-bound, g-bound) depth 20) tt
 
   add-fits : SFits w64 (toZ w64 (ofZ w64 r) +ℤ toZ w64 (ofZ w64 g))
-  add-fits = rw (toZ-ofZ r-fits, toZ-ofZ g-fits) sum-fits
+  add-fits = fits₂ _+ℤ_ (toZ-ofZ r-fits) (toZ-ofZ g-fits) sum-fits
 
   sum-is : toZ w64 (ofZ w64 (toZ w64 (ofZ w64 r) +ℤ toZ w64 (ofZ w64 g))) ≡ r +ℤ g
-  sum-is = toZ-ofZ add-fits ∙ ap₂ _+ℤ_ (toZ-ofZ r-fits) (toZ-ofZ g-fits)
+  sum-is = result₂ _+ℤ_ (toZ-ofZ r-fits) (toZ-ofZ g-fits) sum-fits
 
 rounded-requires : tie.Need-rounded-requires
 rounded-requires c κs = search needs

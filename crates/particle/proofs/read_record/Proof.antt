@@ -1,0 +1,26 @@
+-- `read_record` meets its contract: the length, and then what `accept` answers of the particle that `unpack` finds. Assumes nothing.
+use borrow.Author.Needs.{needs}
+use borrow.Author.Tests.{eq-eqb, ne-eqb}
+use mathlib.Core.Path.{ap, _∙_}
+use Rattle.particle.specs.Record.{readAnswer, readParticle}
+use Rattle.particle.proofs.read_record.Statement.{statement}
+use Rattle.particle.proofs.read_record.Tie as tie
+
+returns : tie.Need-returns
+unfolding readAnswer
+returns c = simp (ne-eqb _ _ (c .if1 .taken))
+
+unpack-requires : tie.Need-unpack-requires
+unpack-requires c κs = search needs
+
+accept-requires : tie.Need-accept-requires
+accept-requires c κs = search needs
+
+returns-2 : tie.Need-returns-2
+unfolding readAnswer
+returns-2 c =
+    simp (eq-eqb _ _ (c .before .before .if1 .left))
+    (c .accept .ensures ∙ ap (readParticle 0) (c .before .unpack .ensures))
+
+pub read-record-spec : {M : Type 1} → statement M
+read-record-spec = tie.close (tie.spec returns unpack-requires accept-requires returns-2)
