@@ -1,46 +1,30 @@
--- The code's formula for each byte of a header: the byte of the number that the fields' parts make.
---     byte-..       one law for each byte, and all of them as `bytes`
+-- The bytes of a header, written as a word of eight bytes and one byte more.
+--     first-word, last-byte     the code's two numbers are the high bits and the low byte of the number that the parts make
+--     word-and-byte             and the bytes of these two are the header
 -- Assumes nothing.
 use Prim.Native.Nat.{ℕ, _+_, _*_, _/_, _%_, _^_}
 use native.Mathlib.Omega.{arith}
-use mathlib.Core.Path.{_≡_}
-use mathlib.Core.List.{List, [], _∷_}
+use mathlib.Core.Path.{_≡_, sym, ap, _∙_}
+use mathlib.Core.List.{List, [], _∷_, _++_}
+use lib.ListN.{length, set, drop, replicate, length-drop}
 use Rattle.particle.specs.Bits.{cut, join, widths}
-use Rattle.particle.specs.Internal.{Below}
-use Rattle.bath_file.specs.Layout.{layout, byteWidths}
+use Rattle.particle.specs.Internal.{Below, wordBytes, stored}
+use Rattle.particle.proofs.Parts.{cut-append}
+use Rattle.particle.proofs.Stores.{filled}
+use Rattle.bath_file.specs.Layout.{layout, byteWidths, headerLength}
 
 module _ (nx ny gx gy count steps : ℕ) (below : Below (widths layout) (nx ∷ ny ∷ gx ∷ gy ∷ count ∷ steps ∷ 0 ∷ [])) where
-  abbrev number : ℕ
+  abbrev pub number : ℕ
   number = join (widths layout) (nx ∷ ny ∷ gx ∷ gy ∷ count ∷ steps ∷ 0 ∷ [])
 
-  byte-0 : (nx * 4 + ny / 16) % 256 ≡ number / 2 ^ 64 % 2 ^ 8
-  byte-0 = omega arith
+  pub first-word : nx * 288230376151711744 + ny * 4503599627370496 + gx * 274877906944 + gy * 16777216 + count * 2048 + steps / 8 ≡ number / 2 ^ 8
+  first-word = omega arith
 
-  byte-1 : (ny * 16 + gx / 1024) % 256 ≡ number / 2 ^ 56 % 2 ^ 8
-  byte-1 = omega arith
+  pub last-byte : steps % 8 * 32 ≡ number / 2 ^ 0 % 2 ^ 8
+  last-byte = omega arith
 
-  byte-2 : (0 * 1 + gx / 4) % 256 ≡ number / 2 ^ 48 % 2 ^ 8
-  byte-2 = omega arith
-
-  byte-3 : (gx * 64 + gy / 256) % 256 ≡ number / 2 ^ 40 % 2 ^ 8
-  byte-3 = omega arith
-
-  byte-4 : (0 * 1 + gy / 1) % 256 ≡ number / 2 ^ 32 % 2 ^ 8
-  byte-4 = omega arith
-
-  byte-5 : (0 * 1 + count / 32) % 256 ≡ number / 2 ^ 24 % 2 ^ 8
-  byte-5 = omega arith
-
-  byte-6 : (count * 8 + steps / 2048) % 256 ≡ number / 2 ^ 16 % 2 ^ 8
-  byte-6 = omega arith
-
-  byte-7 : (0 * 1 + steps / 8) % 256 ≡ number / 2 ^ 8 % 2 ^ 8
-  byte-7 = omega arith
-
-  byte-8 : (steps * 32 + 0 / 1) % 256 ≡ number / 2 ^ 0 % 2 ^ 8
-  byte-8 = omega arith
-
-  pub bytes : _≡_ {A = List ℕ}
-      ((nx * 4 + ny / 16) % 256 ∷ (ny * 16 + gx / 1024) % 256 ∷ (0 * 1 + gx / 4) % 256 ∷ (gx * 64 + gy / 256) % 256 ∷ (0 * 1 + gy / 1) % 256 ∷ (0 * 1 + count / 32) % 256 ∷ (count * 8 + steps / 2048) % 256 ∷ (0 * 1 + steps / 8) % 256 ∷ (steps * 32 + 0 / 1) % 256 ∷ [])
-      (cut byteWidths number)
-  bytes = λ i. byte-0 i ∷ byte-1 i ∷ byte-2 i ∷ byte-3 i ∷ byte-4 i ∷ byte-5 i ∷ byte-6 i ∷ byte-7 i ∷ byte-8 i ∷ []
+-- in a buffer of a header's length one byte stands behind the word
+pub word-and-byte : (n : ℕ) (l : List ℕ) → length l ≡ headerLength → set (stored (wordBytes (n / 2 ^ 8)) l 0) 8 (n / 2 ^ 0 % 2 ^ 8) ≡ cut byteWidths n
+word-and-byte n l e =
+    ap (λ r. wordBytes (n / 2 ^ 8) ++ r) (filled (n / 2 ^ 0 % 2 ^ 8 ∷ []) (drop 8 l) (length-drop 8 l ∙ omega arith))
+    ∙ sym (cut-append (replicate 8 8) (replicate 1 8) n)

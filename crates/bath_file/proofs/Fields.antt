@@ -1,15 +1,16 @@
 -- The code's formula for each field of a header: the part of the header's number that the layout gives it.
 --     Bytes         nine bytes, and the number that they make
---     part-..       one law for each field, in the layout's order
+--     part          a field that lies in the first eight bytes
+--     part-..       the first field, the one that goes on into the last byte, and the spare bits
 -- Assumes nothing.
-use Prim.Native.Nat.{ℕ, _/_, _%_, _^_, _<_}
+use Prim.Native.Nat.{ℕ, _+_, _*_, _/_, _%_, _^_, _<_}
 use native.Mathlib.Omega.{arith}
-use mathlib.Core.Path.{_≡_, ap}
+use mathlib.Core.Path.{_≡_, ap, _∙_}
 use mathlib.Core.List.{List}
 use lib.ListN.{length, getD}
 use Rattle.particle.specs.Bits.{join}
-use Rattle.particle.specs.Internal.{window}
-use Rattle.particle.proofs.Fields.{tabulate, listed}
+use Rattle.particle.specs.Internal.{wordAt}
+use Rattle.particle.proofs.Fields.{tabulate, listed, high-read}
 use Rattle.bath_file.specs.Layout.{byteWidths, headerLength}
 
 pub record Bytes (l : List ℕ) : Type 0 where
@@ -39,23 +40,26 @@ bytes l e small =
       b8 = small 8;
     }
 
-pub part-nx : (l : List ℕ) → Bytes l → window l 0 / 262144 % 64 ≡ join byteWidths l / 2 ^ 66 % 2 ^ 6
-part-nx l b = omega arith
+-- the first eight bytes are what stands above the last
+first-word : (l : List ℕ) → Bytes l → wordAt l 0 ≡ join byteWidths l / 2 ^ 8
+first-word l b = omega arith
 
-pub part-ny : (l : List ℕ) → Bytes l → window l 0 / 4096 % 64 ≡ join byteWidths l / 2 ^ 60 % 2 ^ 6
-part-ny l b = omega arith
+module _ (l : List ℕ) (b : Bytes l) {word : ℕ} (first : word ≡ wordAt l 0) where
+  -- a field of w bits with s bits of the word below it, from sixteen bits of the word
+  pub part : (s w r : ℕ) → r + w ≡ 16 → {low : ℕ} → low ≡ word / 2 ^ s % 65536 → low % 2 ^ w ≡ join byteWidths l / 2 ^ (8 + s) % 2 ^ w
+  part s w r e q = high-read (join byteWidths l) 8 s w r e (first ∙ first-word l b) q
 
-pub part-gx : (l : List ℕ) → Bytes l → window l 1 / 64 % 16384 ≡ join byteWidths l / 2 ^ 46 % 2 ^ 14
-part-gx l b = omega arith
+  top : wordAt l 0 / 2 ^ 58 % 65536 ≡ join byteWidths l / 2 ^ 66 % 2 ^ 6
+  top = omega arith
 
-pub part-gy : (l : List ℕ) → Bytes l → window l 3 / 256 % 16384 ≡ join byteWidths l / 2 ^ 32 % 2 ^ 14
-part-gy l b = omega arith
+  pub part-nx : {low : ℕ} → low ≡ word / 2 ^ 58 % 65536 → low ≡ join byteWidths l / 2 ^ 66 % 2 ^ 6
+  part-nx q = q ∙ ap (λ n. n / 2 ^ 58 % 65536) first ∙ top
 
-pub part-count : (l : List ℕ) → Bytes l → window l 5 / 2048 % 8192 ≡ join byteWidths l / 2 ^ 19 % 2 ^ 13
-part-count l b = omega arith
+  across : wordAt l 0 % 2048 * 8 % 65536 + getD l 8 0 / 32 ≡ join byteWidths l / 2 ^ 5 % 2 ^ 14
+  across = omega arith
 
-pub part-steps : (l : List ℕ) → Bytes l → window l 6 / 32 % 16384 ≡ join byteWidths l / 2 ^ 5 % 2 ^ 14
-part-steps l b = omega arith
+  pub part-steps : {low : ℕ} → low ≡ word % 2048 * 8 % 65536 → low + getD l 8 0 / 32 ≡ join byteWidths l / 2 ^ 5 % 2 ^ 14
+  part-steps q = ap (λ n. n + getD l 8 0 / 32) (q ∙ ap (λ n. n % 2048 * 8 % 65536) first) ∙ across
 
-pub part-spare : (l : List ℕ) → Bytes l → window l 6 / 1 % 32 ≡ join byteWidths l / 2 ^ 0 % 2 ^ 5
+pub part-spare : (l : List ℕ) → Bytes l → getD l 8 0 % 32 ≡ join byteWidths l / 2 ^ 0 % 2 ^ 5
 part-spare l b = omega arith

@@ -47,18 +47,21 @@ pub enum HeaderWritten {
     Refused(Refusal),
 }
 
-// The header that nine bytes hold. `read_header` calls it with as many.
+// The header that nine bytes hold, from a word of eight bytes and one byte more: the low bits of the steps are in that one.
+// `read_header` calls it with as many.
 fn unpack(bytes: &[u8]) -> Header
     requires { ⌜ length (now bytes) ≡ headerLength ⌝ }
     ensures { λ r. ⌜ r ≡ headerIn (now (bytes .entry)) ⌝ }
 {
+    let first = bits::word(bytes, 0);
+    let last = bytes[8];
     Header {
-        nx: bits::unsigned(bytes, 0, 262144, 64) as usize,
-        ny: bits::unsigned(bytes, 0, 4096, 64) as usize,
-        gx: bits::signed(bytes, 1, 64, 8192),
-        gy: bits::signed(bytes, 3, 256, 8192),
-        count: bits::unsigned(bytes, 5, 2048, 8192) as usize,
-        steps: bits::unsigned(bytes, 6, 32, 16384) as usize,
+        nx: bits::low(first / 288230376151711744) as usize,
+        ny: (bits::low(first / 4503599627370496) % 64) as usize,
+        gx: bits::signed_low(bits::low(first / 274877906944), 14),
+        gy: bits::signed_low(bits::low(first / 16777216), 14),
+        count: (bits::low(first / 2048) % 8192) as usize,
+        steps: (bits::low(first % 2048 * 8) + (last / 32) as u16) as usize,
     }
 }
 
@@ -67,7 +70,7 @@ fn spare_bits(bytes: &[u8]) -> u16
     requires { ⌜ length (now bytes) ≡ headerLength ⌝ }
     ensures { λ r. ⌜ r ≡ natAbs (held spare (now (bytes .entry))) ⌝ }
 {
-    bits::unsigned(bytes, 6, 1, 32)
+    (bytes[8] % 32) as u16
 }
 
 // The answer for a header's values, read or to be written.
@@ -133,20 +136,20 @@ pub fn read_file(bytes: &[u8]) -> FileRead
     }
 }
 
-// Writes the header with these parts in its fields, and no spare bit set. `pack` calls it with parts that the fields hold.
+// Writes the header with these parts in its fields, and no spare bit set, as a word of eight bytes and one byte more. `pack`
+// calls it with parts that the fields hold.
 fn put(nx: u16, ny: u16, gx: u16, gy: u16, count: u16, steps: u16, bytes: &mut [u8])
     requires { ⌜ Below (widths layout) (nx ∷ ny ∷ gx ∷ gy ∷ count ∷ steps ∷ 0 ∷ []) × (length (now bytes) ≡ headerLength) ⌝ }
     ensures { λ _. ⌜ now (bytes .exit) ≡ cut byteWidths (join (widths layout) (nx ∷ ny ∷ gx ∷ gy ∷ count ∷ steps ∷ 0 ∷ [])) ⌝ }
 {
-    bytes[0] = bits::byte(nx, 4, ny, 16);
-    bytes[1] = bits::byte(ny, 16, gx, 1024);
-    bytes[2] = bits::byte(0, 1, gx, 4);
-    bytes[3] = bits::byte(gx, 64, gy, 256);
-    bytes[4] = bits::byte(0, 1, gy, 1);
-    bytes[5] = bits::byte(0, 1, count, 32);
-    bytes[6] = bits::byte(count, 8, steps, 2048);
-    bytes[7] = bits::byte(0, 1, steps, 8);
-    bytes[8] = bits::byte(steps, 32, 0, 1);
+    let first = nx as u64 * 288230376151711744
+        + ny as u64 * 4503599627370496
+        + gx as u64 * 274877906944
+        + gy as u64 * 16777216
+        + count as u64 * 2048
+        + (steps / 8) as u64;
+    bits::put_word(first, bytes, 0);
+    bytes[8] = (steps % 8 * 32) as u8;
 }
 
 // Writes the nine bytes that hold a header. `write_header` calls it with a header that it accepts.

@@ -1,14 +1,17 @@
--- The code's formula for each field of a record: the part of the record's number that the layout gives it.
---     Bytes         14 bytes, and the number that they make
---     part-..       one law for each field, in the layout's order
+-- The code's formula for a field of a record: the part of the record's number that the layout gives it.
+--     Bytes                     14 bytes, and the number that they make
+--     first-part, last-part     a part that lies in the first eight bytes, or in the last
+--     first-read, last-read     such a part, from sixteen bits of its word
+--     high-read                 the same of any word that is what stands above some bits
 -- Assumes nothing.
 use Prim.Native.Nat.{ℕ, zero, suc, _+_, _*_, _/_, _%_, _^_, _<_}
 use native.Mathlib.Omega.{arith}
-use mathlib.Core.Path.{_≡_, refl, ap, _∙_}
+use mathlib.Core.Path.{_≡_, refl, sym, ap, _∙_}
 use mathlib.Core.List.{List, [], _∷_}
 use lib.ListN.{length, getD}
+use lib.Pow.{shr-shr, field, mod-mod-pow}
 use Rattle.particle.specs.Bits.{join}
-use Rattle.particle.specs.Internal.{pair}
+use Rattle.particle.specs.Internal.{wordAt}
 use Rattle.particle.specs.Layout.{byteWidths, recordLength}
 
 -- the list of f 0, f 1, .. of length n
@@ -60,32 +63,38 @@ bytes l e small =
       b13 = small 13;
     }
 
-pub part-identifier : (l : List ℕ) → Bytes l → pair l 0 ≡ join byteWidths l / 2 ^ 96 % 2 ^ 16
-part-identifier l b = omega arith
+-- the first eight bytes are what stands above the last six, and the last eight what stands below the first six
+first-word : (l : List ℕ) → Bytes l → wordAt l 0 ≡ join byteWidths l / 2 ^ 48
+first-word l b = omega arith
 
-pub part-mass : (l : List ℕ) → Bytes l → pair l 2 / 64 ≡ join byteWidths l / 2 ^ 86 % 2 ^ 10
-part-mass l b = omega arith
+last-word : (l : List ℕ) → Bytes l → wordAt l 6 ≡ join byteWidths l % 2 ^ 64
+last-word l b = omega arith
 
-pub part-x : (l : List ℕ) → Bytes l → pair l 2 % 64 * 64 + pair l 4 / 1024 ≡ join byteWidths l / 2 ^ 74 % 2 ^ 12
-part-x l b = omega arith
+-- a part of w bits with s bits of its word below it, where the word has t bits below it
+high-part : (n t s w : ℕ) {word : ℕ} → word ≡ n / 2 ^ t → word / 2 ^ s % 2 ^ w ≡ n / 2 ^ (t + s) % 2 ^ w
+high-part n t s w p = ap (λ m. m / 2 ^ s % 2 ^ w) p ∙ ap (λ m. m % 2 ^ w) (shr-shr n t s)
 
-pub part-y : (l : List ℕ) → Bytes l → pair l 4 % 1024 * 4 + pair l 6 / 16384 ≡ join byteWidths l / 2 ^ 62 % 2 ^ 12
-part-y l b = omega arith
+pub first-part : (l : List ℕ) → Bytes l → (s w : ℕ) → wordAt l 0 / 2 ^ s % 2 ^ w ≡ join byteWidths l / 2 ^ (48 + s) % 2 ^ w
+first-part l b s w = high-part (join byteWidths l) 48 s w (first-word l b)
 
-pub part-vx : (l : List ℕ) → Bytes l → pair l 6 / 128 % 128 ≡ join byteWidths l / 2 ^ 55 % 2 ^ 7
-part-vx l b = omega arith
+last-part : (l : List ℕ) → Bytes l → (s w r : ℕ) → r + w + s ≡ 64 → wordAt l 6 / 2 ^ s % 2 ^ w ≡ join byteWidths l / 2 ^ s % 2 ^ w
+last-part l b s w r e =
+    let n = join byteWidths l in
+    ap (λ m. m / 2 ^ s % 2 ^ w) (last-word l b)
+    ∙ ap (λ t. n % 2 ^ t / 2 ^ s % 2 ^ w) (sym e)
+    ∙ ap (λ m. m % 2 ^ w) (field n (r + w) s)
+    ∙ mod-mod-pow (n / 2 ^ s) r w
 
-pub part-vy : (l : List ℕ) → Bytes l → pair l 6 % 128 ≡ join byteWidths l / 2 ^ 48 % 2 ^ 7
-part-vy l b = omega arith
+-- the same parts, from the sixteen bits of a word from s on
+kept : (n w r : ℕ) → r + w ≡ 16 → n % 65536 % 2 ^ w ≡ n % 2 ^ w
+kept n w r e = ap (λ t. n % 2 ^ t % 2 ^ w) (sym e) ∙ mod-mod-pow n r w
 
-pub part-Bxx : (l : List ℕ) → Bytes l → pair l 8 / 16 % 4096 ≡ join byteWidths l / 2 ^ 36 % 2 ^ 12
-part-Bxx l b = omega arith
+pub high-read : (n t s w r : ℕ) → r + w ≡ 16 → {word low : ℕ} → word ≡ n / 2 ^ t → low ≡ word / 2 ^ s % 65536 → low % 2 ^ w ≡ n / 2 ^ (t + s) % 2 ^ w
+high-read n t s w r e {word} p q = ap (λ m. m % 2 ^ w) q ∙ kept (word / 2 ^ s) w r e ∙ high-part n t s w p
 
-pub part-Bxy : (l : List ℕ) → Bytes l → (pair l 8 % 16 * 256 + pair l 10 / 256) % 4096 ≡ join byteWidths l / 2 ^ 24 % 2 ^ 12
-part-Bxy l b = omega arith
+pub first-read : (l : List ℕ) → Bytes l → (s w r : ℕ) → r + w ≡ 16 → {word low : ℕ} → word ≡ wordAt l 0 → low ≡ word / 2 ^ s % 65536 → low % 2 ^ w ≡ join byteWidths l / 2 ^ (48 + s) % 2 ^ w
+first-read l b s w r e p q = high-read (join byteWidths l) 48 s w r e (p ∙ first-word l b) q
 
-pub part-Byx : (l : List ℕ) → Bytes l → (pair l 10 % 256 * 16 + pair l 12 / 4096) % 4096 ≡ join byteWidths l / 2 ^ 12 % 2 ^ 12
-part-Byx l b = omega arith
-
-pub part-Byy : (l : List ℕ) → Bytes l → pair l 12 % 4096 ≡ join byteWidths l / 2 ^ 0 % 2 ^ 12
-part-Byy l b = omega arith
+pub last-read : (l : List ℕ) → Bytes l → (s w r t : ℕ) → r + w ≡ 16 → t + w + s ≡ 64 → {word low : ℕ} → word ≡ wordAt l 6 → low ≡ word / 2 ^ s % 65536 → low % 2 ^ w ≡ join byteWidths l / 2 ^ s % 2 ^ w
+last-read l b s w r t e f p q =
+    ap (λ n. n % 2 ^ w) (q ∙ ap (λ n. n / 2 ^ s % 65536) p) ∙ kept (wordAt l 6 / 2 ^ s) w r e ∙ last-part l b s w t f

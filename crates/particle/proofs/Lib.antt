@@ -1,4 +1,3 @@
-pub mod Bytes
 pub mod Example
 pub mod Fields
 pub mod Flags
@@ -8,4 +7,5 @@ pub mod Shifts
 pub mod Signed
 pub mod Stores
 pub mod Valid
+pub mod Words
 pub mod Writing

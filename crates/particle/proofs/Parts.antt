@@ -3,14 +3,16 @@
 --     cut-join          parts that their widths hold are the parts of the number that they make
 --     join-lt           a number that is made of parts is below the power of all their widths
 --     cut-below         what is cut is held by its widths
+--     cut-append        some widths and then others cut the high bits and then the low ones
+--     cut-mod           the low bits are all that is cut
 -- Assumes nothing.
 use Prim.Native.Nat.{ℕ, zero, suc, _+_, _*_, _/_, _%_, _^_, _<_}
 use native.Mathlib.Nat.{mod-lt, mod-one, mod-eq-of-lt, mul-assoc, mul-add-div-right, mul-add-mod-self-right}
 use native.Mathlib.Omega.{arith}
 use mathlib.Core.Path.{_≡_, refl, sym, ap, ap₂, _∙_}
-use mathlib.Core.List.{List, [], _∷_}
+use mathlib.Core.List.{List, [], _∷_, _++_}
 use lib.Arith.{digits-lt}
-use lib.Pow.{pow-pos, pow-add, mod-pow-add, high}
+use lib.Pow.{pow-pos, pow-add, mod-pow-add, high, shr-shr, split}
 use lib.ListN.{length, getD, replicate}
 use Rattle.particle.specs.Bits.{total, cut, join}
 use Rattle.particle.specs.Internal.{Below}
@@ -40,6 +42,20 @@ cut-low (w ∷ ws) c n =
     ∙ ap₂ (λ d ds. d ∷ ds)
     (ap (λ x. x % 2 ^ w) (mul-add-div-right (pow-pos t) (c * 2 ^ w) n) ∙ mul-add-mod-self-right c (2 ^ w) (n / 2 ^ t))
     (cut-low ws (c * 2 ^ w) n)
+
+pub cut-mod : (ws : List ℕ) (n : ℕ) → cut ws (n % 2 ^ total ws) ≡ cut ws n
+cut-mod ws n = sym (cut-low ws (n / 2 ^ total ws) (n % 2 ^ total ws)) ∙ ap (cut ws) (split n (total ws))
+
+total-append : (ws vs : List ℕ) → total (ws ++ vs) ≡ total vs + total ws
+total-append [] vs = omega arith
+total-append (w ∷ ws) vs = ap (λ t. w + t) (total-append ws vs) ∙ omega arith
+
+pub cut-append : (ws vs : List ℕ) (n : ℕ) → cut (ws ++ vs) n ≡ cut ws (n / 2 ^ total vs) ++ cut vs n
+cut-append [] vs n = refl
+cut-append (w ∷ ws) vs n =
+    ap₂ (λ d ds. d % 2 ^ w ∷ ds)
+    (ap (λ t. n / 2 ^ t) (total-append ws vs) ∙ sym (shr-shr n (total vs) (total ws)))
+    (cut-append ws vs n)
 
 pub cut-join : (ws ds : List ℕ) → Below ws ds → cut ws (join ws ds) ≡ ds
 cut-join [] [] b = refl

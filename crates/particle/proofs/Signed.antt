@@ -25,7 +25,7 @@ pub mag-le : (z : ℤ) → mag z ≤ natAbs z
 mag-le (pos n) = le-refl n
 mag-le (negsuc n) = omega arith
 
-pub below-zero : (a b : ℕ) → a < b → pos a -ℤ pos b ≡ negsuc (b - suc a)
+below-zero : (a b : ℕ) → a < b → pos a -ℤ pos b ≡ negsuc (b - suc a)
 below-zero a zero h = absurd (omega arith)
 below-zero a (suc m) h = simp (lt-ltb a (suc m) h)
 

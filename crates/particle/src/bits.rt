@@ -4,49 +4,50 @@ ghost use Prim.Native.Nat.{_+_, _-_, _*_, _/_, _%_, _^_, _≤_, _<_};
 ghost use lib.ListN.{length};
 ghost use lib.Signed.{mag};
 ghost use Rattle.particle.specs.Bits.{twosComplement, residue};
-ghost use Rattle.particle.specs.Internal.{window, pair};
+ghost use Rattle.particle.specs.Internal.{littleAt, swappedOf, wordAt, littleBytes, wordBytes, stored};
 
-fn wide(byte: u8) -> u32
-    ensures { λ r. ⌜ (r ≡ byte) × (r < 256) ⌝ }
+// Eight bytes from `at` on as one number, the first the least significant: the compiler makes one load of it. `word` calls it.
+fn little(bytes: &[u8], at: usize) -> u64
+    requires { ⌜ at + 8 ≤ length (now bytes) ⌝ }
+    ensures { λ r. ⌜ r ≡ littleAt (now (bytes .entry)) at ⌝ }
 {
-    byte as u32
+    bytes[at] as u64
+        + bytes[at + 1] as u64 * 256
+        + bytes[at + 2] as u64 * 65536
+        + bytes[at + 3] as u64 * 16777216
+        + bytes[at + 4] as u64 * 4294967296
+        + bytes[at + 5] as u64 * 1099511627776
+        + bytes[at + 6] as u64 * 281474976710656
+        + bytes[at + 7] as u64 * 72057594037927936
 }
 
-// The number that the three bytes from `at` on make, divided by `drop` and reduced modulo `span`: a field of three bytes' span at most.
-pub fn unsigned(bytes: &[u8], at: usize, drop: u32, span: u32) -> u16
-    requires { ⌜ (at + 3 ≤ length (now bytes)) × (0 < drop) × (0 < span) × (span ≤ 65536) ⌝ }
-    ensures { λ r. ⌜ r ≡ window (now (bytes .entry)) at / drop % span ⌝ }
+// A number of eight bytes with its bytes in the other order.
+fn swapped(w: u64) -> u64
+    ensures { λ r. ⌜ r ≡ swappedOf w ⌝ }
 {
-    let three = wide(bytes[at]) * 65536 + wide(bytes[at + 1]) * 256 + wide(bytes[at + 2]);
-    (three / drop % span) as u16
+    w % 256 * 72057594037927936
+        + w / 256 % 256 * 281474976710656
+        + w / 65536 % 256 * 1099511627776
+        + w / 16777216 % 256 * 4294967296
+        + w / 4294967296 % 256 * 16777216
+        + w / 1099511627776 % 256 * 65536
+        + w / 281474976710656 % 256 * 256
+        + w / 72057594037927936
 }
 
-// A number below twice `half`, read in two's complement.
-fn twos_complement(part: u16, half: u16) -> i16
-    requires { ⌜ (part < half + half) × (half ≤ 16383) ⌝ }
-    ensures { λ r. ⌜ r ≡ twosComplement half part ⌝ }
+// Eight bytes from `at` on as one number, the first the most significant. Whoever reads a record calls it with a place in it.
+pub fn word(bytes: &[u8], at: usize) -> u64
+    requires { ⌜ at + 8 ≤ length (now bytes) ⌝ }
+    ensures { λ r. ⌜ r ≡ wordAt (now (bytes .entry)) at ⌝ }
 {
-    if part < half {
-        part as i16
-    } else {
-        part as i16 - (half + half) as i16
-    }
+    swapped(little(bytes, at))
 }
 
-// The same for a signed field, which spans twice `half`.
-pub fn signed(bytes: &[u8], at: usize, drop: u32, half: u16) -> i16
-    requires { ⌜ (at + 3 ≤ length (now bytes)) × (0 < drop) × (0 < half) × (half ≤ 16383) ⌝ }
-    ensures { λ r. ⌜ r ≡ twosComplement half (window (now (bytes .entry)) at / drop % (half + half)) ⌝ }
+// The low sixteen bits.
+pub fn low(w: u64) -> u16
+    ensures { λ r. ⌜ r ≡ w % 65536 ⌝ }
 {
-    twos_complement(unsigned(bytes, at, drop, (half + half) as u32), half)
-}
-
-// Two bytes from `at` on, as one number. Whoever reads a record calls it with a place in it.
-pub fn pair(bytes: &[u8], at: usize) -> u16
-    requires { ⌜ at + 2 ≤ length (now bytes) ⌝ }
-    ensures { λ r. ⌜ r ≡ pair (now (bytes .entry)) at ⌝ }
-{
-    bytes[at] as u16 * 256 + bytes[at + 1] as u16
+    (w % 65536) as u16
 }
 
 // The low bits of a number, `width` of them, read in two's complement: the sign is moved to the top and back. Whoever reads a
@@ -67,10 +68,27 @@ pub fn residue(value: i16, span: u16) -> u16
     (value + span as i16) as u16 % span
 }
 
-// A byte: the low bits of `high`, moved up by a product with `scale`, and then what a division by `drop` leaves of `low`.
-pub fn byte(high: u16, scale: u16, low: u16, drop: u16) -> u8
-    requires { ⌜ 0 < drop ⌝ }
-    ensures { λ r. ⌜ r ≡ (high * scale + low / drop) % 256 ⌝ }
+// Stores the eight bytes of a number from `at` on, the least significant first: the compiler makes one store of it. `put_word`
+// calls it with a place that has eight bytes.
+fn put_little(w: u64, bytes: &mut [u8], at: usize)
+    requires { ⌜ at + 8 ≤ length (now bytes) ⌝ }
+    ensures { λ _. ⌜ now (bytes .exit) ≡ stored (littleBytes w) (now (bytes .entry)) at ⌝ }
 {
-    ((high as u32 * scale as u32 + (low / drop) as u32) % 256) as u8
+    bytes[at] = (w % 256) as u8;
+    bytes[at + 1] = (w / 256 % 256) as u8;
+    bytes[at + 2] = (w / 65536 % 256) as u8;
+    bytes[at + 3] = (w / 16777216 % 256) as u8;
+    bytes[at + 4] = (w / 4294967296 % 256) as u8;
+    bytes[at + 5] = (w / 1099511627776 % 256) as u8;
+    bytes[at + 6] = (w / 281474976710656 % 256) as u8;
+    bytes[at + 7] = (w / 72057594037927936) as u8;
+}
+
+// Stores the eight bytes of a number from `at` on, the most significant first. Whoever writes a record calls it with a place that
+// has eight bytes.
+pub fn put_word(w: u64, bytes: &mut [u8], at: usize)
+    requires { ⌜ at + 8 ≤ length (now bytes) ⌝ }
+    ensures { λ _. ⌜ now (bytes .exit) ≡ stored (wordBytes w) (now (bytes .entry)) at ⌝ }
+{
+    put_little(swapped(w), bytes, at);
 }

@@ -38,30 +38,25 @@ pub enum Written {
     Refused(Refusal),
 }
 
-// The particle that a record of the right length holds, valid or not: seven pairs of bytes, and the fields from them. Whoever
+// The particle that a record of the right length holds, valid or not: two words of eight bytes, and the fields from them. Whoever
 // reads a record of that length calls it.
 pub fn unpack(bytes: &[u8]) -> Particle
     requires { ⌜ length (now bytes) ≡ recordLength ⌝ }
     ensures { λ r. ⌜ r ≡ particleOf (now (bytes .entry)) ⌝ }
 {
-    let a = bits::pair(bytes, 0);
-    let b = bits::pair(bytes, 2);
-    let c = bits::pair(bytes, 4);
-    let d = bits::pair(bytes, 6);
-    let e = bits::pair(bytes, 8);
-    let f = bits::pair(bytes, 10);
-    let g = bits::pair(bytes, 12);
+    let first = bits::word(bytes, 0);
+    let second = bits::word(bytes, 6);
     Particle {
-        identifier: a,
-        mass: b / 64,
-        x: b % 64 * 64 + c / 1024,
-        y: c % 1024 * 4 + d / 16384,
-        vx: bits::signed_low(d / 128, 7),
-        vy: bits::signed_low(d, 7),
-        bxx: bits::signed_low(e / 16, 12),
-        bxy: bits::signed_low(e % 16 * 256 + f / 256, 12),
-        byx: bits::signed_low(f % 256 * 16 + g / 4096, 12),
-        byy: bits::signed_low(g, 12),
+        identifier: bits::low(first / 281474976710656),
+        mass: bits::low(first / 274877906944) % 1024,
+        x: bits::low(first / 67108864) % 4096,
+        y: bits::low(first / 16384) % 4096,
+        vx: bits::signed_low(bits::low(first / 128), 7),
+        vy: bits::signed_low(bits::low(first), 7),
+        bxx: bits::signed_low(bits::low(second / 68719476736), 12),
+        bxy: bits::signed_low(bits::low(second / 16777216), 12),
+        byx: bits::signed_low(bits::low(second / 4096), 12),
+        byy: bits::signed_low(bits::low(second), 12),
     }
 }
 
@@ -116,7 +111,8 @@ fn allow(p: Particle) -> Written
     Written::Done
 }
 
-// Writes the record with these parts in its fields. `pack` calls it with parts that the fields hold.
+// Writes the record with these parts in its fields, as two words: the second starts with the first one's last two bytes. `pack`
+// calls it with parts that the fields hold.
 fn put(
     identifier: u16,
     mass: u16,
@@ -133,20 +129,19 @@ fn put(
     requires { ⌜ Below (widths layout) (identifier ∷ mass ∷ x ∷ y ∷ vx ∷ vy ∷ bxx ∷ bxy ∷ byx ∷ byy ∷ []) × (length (now bytes) ≡ recordLength) ⌝ }
     ensures { λ _. ⌜ now (bytes .exit) ≡ cut byteWidths (join (widths layout) (identifier ∷ mass ∷ x ∷ y ∷ vx ∷ vy ∷ bxx ∷ bxy ∷ byx ∷ byy ∷ [])) ⌝ }
 {
-    bytes[0] = bits::byte(0, 1, identifier, 256);
-    bytes[1] = bits::byte(0, 1, identifier, 1);
-    bytes[2] = bits::byte(0, 1, mass, 4);
-    bytes[3] = bits::byte(mass, 64, x, 64);
-    bytes[4] = bits::byte(x, 4, y, 1024);
-    bytes[5] = bits::byte(0, 1, y, 4);
-    bytes[6] = bits::byte(y, 64, vx, 2);
-    bytes[7] = bits::byte(vx, 128, vy, 1);
-    bytes[8] = bits::byte(0, 1, bxx, 16);
-    bytes[9] = bits::byte(bxx, 16, bxy, 256);
-    bytes[10] = bits::byte(0, 1, bxy, 1);
-    bytes[11] = bits::byte(0, 1, byx, 16);
-    bytes[12] = bits::byte(byx, 16, byy, 256);
-    bytes[13] = bits::byte(0, 1, byy, 1);
+    let first = identifier as u64 * 281474976710656
+        + mass as u64 * 274877906944
+        + x as u64 * 67108864
+        + y as u64 * 16384
+        + vx as u64 * 128
+        + vy as u64;
+    let second = first % 65536 * 281474976710656
+        + bxx as u64 * 68719476736
+        + bxy as u64 * 16777216
+        + byx as u64 * 4096
+        + byy as u64;
+    bits::put_word(first, bytes, 0);
+    bits::put_word(second, bytes, 6);
 }
 
 // Copies bytes into a buffer of their number. Whoever has the bytes at hand calls it.

@@ -1,70 +1,105 @@
--- `unpack` meets its contract: each field by its law. Assumes nothing.
+-- `unpack` meets its contract: the word and the byte are the header's, and each field follows as a part of them. Assumes nothing.
 use borrow.Author.Needs.{needs}
-use mathlib.Core.Path.{_∙_}
+use native.Mathlib.Omega.{arith}
+use Prim.Native.Nat.{_<_}
+use mathlib.Core.Path.{refl}
 use denote.Ref.{now}
+use lib.ListN.{getD}
 use Rattle.particle.proofs.Signed.{signed-part}
 use Rattle.bath_file.specs.File.{headerIn}
-use Rattle.bath_file.proofs.Fields.{Bytes, bytes, part-nx, part-ny, part-gx, part-gy, part-count, part-steps}
+use Rattle.bath_file.proofs.Fields.{Bytes, bytes, part, part-nx, part-steps}
 use Rattle.bath_file.proofs.unpack.Statement.{statement}
 use Rattle.bath_file.proofs.unpack.Tie as tie
 
-unsigned-requires : tie.Need-unsigned-requires
-unsigned-requires c κs = search needs
+word-requires : tie.Need-word-requires
+word-requires c κs = search needs
 
-cast-t3 : tie.Need-cast-t3
-cast-t3 c = search needs
+shared-slice-read-last : tie.Need-shared-slice-read-last
+shared-slice-read-last c = search needs
 
-unsigned-requires-2 : tie.Need-unsigned-requires-2
-unsigned-requires-2 c κs = search needs
+low-requires : tie.Need-low-requires
+low-requires c κs = search needs
 
-cast-t5 : tie.Need-cast-t5
-cast-t5 c = search needs
+cast-t8 : tie.Need-cast-t8
+cast-t8 c = search needs
 
-signed-requires : tie.Need-signed-requires
-signed-requires c κs = search needs
+low-requires-2 : tie.Need-low-requires-2
+low-requires-2 c κs = search needs
 
-signed-requires-2 : tie.Need-signed-requires-2
-signed-requires-2 c κs = search needs
+cast-t12 : tie.Need-cast-t12
+cast-t12 c = search needs
 
-unsigned-requires-3 : tie.Need-unsigned-requires-3
-unsigned-requires-3 c κs = search needs
+low-requires-3 : tie.Need-low-requires-3
+low-requires-3 c κs = search needs
 
-cast-t9 : tie.Need-cast-t9
-cast-t9 c = search needs
+signed-low-requires : tie.Need-signed-low-requires
+signed-low-requires c κs = search needs
 
-unsigned-requires-4 : tie.Need-unsigned-requires-4
-unsigned-requires-4 c κs = search needs
+low-requires-4 : tie.Need-low-requires-4
+low-requires-4 c κs = search needs
 
-cast-t11 : tie.Need-cast-t11
-cast-t11 c = search needs
+signed-low-requires-2 : tie.Need-signed-low-requires-2
+signed-low-requires-2 c κs = search needs
+
+low-requires-5 : tie.Need-low-requires-5
+low-requires-5 c κs = search needs
+
+cast-t22 : tie.Need-cast-t22
+cast-t22 c = search needs
+
+mul-low : tie.Need-mul-low
+mul-low c = search needs
+
+low-requires-6 : tie.Need-low-requires-6
+low-requires-6 c κs = search needs
+
+last-small : (c : tie.After-low6) → getD (now (c .before .before .before .before .before .before .before .before .before .before .before .args .bytes)) 8 0 < 256
+last-small c = c .before .before .before .before .before .before .before .before .shared-slice-known2 .given 8 .fits
+
+cast-t26 : tie.Need-cast-t26
+cast-t26 c = record { fits = omega (arith, last-small c) }
+
+add-t27 : tie.Need-add-t27
+add-t27 c = record { fits = omega (arith, c .low6 .ensures, last-small c) }
+
+cast-t28 : tie.Need-cast-t28
+cast-t28 c = record { fits = omega (arith, c .low6 .ensures, last-small c) }
 
 returns : tie.Need-returns
 unfolding headerIn
 returns c =
-    let l = now (c .before .before .before .before .before .before .before .args .bytes) in
-    let known : Bytes l = bytes l (c .before .before .before .before .before .before .before .pre) (λ k. c .before .before .before .before .before .before .shared-slice-known .given k .fits) in
+    let l = now (c .before .before .before .before .before .before .before .before .before .before .before .args .bytes) in
+    let known : Bytes l = bytes l (c .before .before .before .before .before .before .before .before .before .before .before .pre) (λ k. c .before .before .before .before .before .before .before .before .before .before .shared-slice-known .given k .fits) in
+    let first = c .before .before .before .before .before .before .before .before .before .word .ensures in
     λ i.
     record {
-      nx = (c .before .before .before .before .before .unsigned .ensures ∙ part-nx l known) i;
-      ny = (c .before .before .before .before .unsigned2 .ensures ∙ part-ny l known) i;
-      gx = signed-part 8192 (c .before .before .before .signed .ok) (c .before .before .before .signed .ensures) (part-gx l known) i;
-      gy = signed-part 8192 (c .before .before .signed2 .ok) (c .before .before .signed2 .ensures) (part-gy l known) i;
-      count = (c .before .unsigned3 .ensures ∙ part-count l known) i;
-      steps = (c .unsigned4 .ensures ∙ part-steps l known) i;
+      nx = part-nx l known first (c .before .before .before .before .before .before .before .low .ensures) i;
+      ny = part l known first 52 6 10 refl (c .before .before .before .before .before .before .low2 .ensures) i;
+      gx = signed-part 8192 (c .before .before .before .before .signed-low .ok) (c .before .before .before .before .signed-low .ensures) (part l known first 38 14 2 refl (c .before .before .before .before .before .low3 .ensures)) i;
+      gy = signed-part 8192 (c .before .before .signed-low2 .ok) (c .before .before .signed-low2 .ensures) (part l known first 24 14 2 refl (c .before .before .before .low4 .ensures)) i;
+      count = part l known first 11 13 3 refl (c .before .low5 .ensures) i;
+      steps = part-steps l known first (c .low6 .ensures) i;
     }
 
 pub unpack-spec : {M : Type 1} → statement M
 unpack-spec =
     tie.close
     (tie.spec
-    unsigned-requires
-    cast-t3
-    unsigned-requires-2
-    cast-t5
-    signed-requires
-    signed-requires-2
-    unsigned-requires-3
-    cast-t9
-    unsigned-requires-4
-    cast-t11
+    word-requires
+    shared-slice-read-last
+    low-requires
+    cast-t8
+    low-requires-2
+    cast-t12
+    low-requires-3
+    signed-low-requires
+    low-requires-4
+    signed-low-requires-2
+    low-requires-5
+    cast-t22
+    mul-low
+    low-requires-6
+    cast-t26
+    add-t27
+    cast-t28
     returns)

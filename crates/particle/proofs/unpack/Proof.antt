@@ -1,73 +1,65 @@
--- `unpack` meets its contract: each pair of bytes is the record's, and each field follows by its law. Assumes nothing.
+-- `unpack` meets its contract: both words are the record's, and each field follows as a part of one. Assumes nothing.
 use borrow.Author.Needs.{needs}
-use mathlib.Core.Path.{ap, ap₂, _∙_}
-use Prim.Native.Nat.{_+_, _*_, _/_, _%_}
+use native.Mathlib.Nat.{div-one}
+use mathlib.Core.Path.{refl, sym, ap, _∙_}
+use Prim.Native.Nat.{_/_, _%_, _^_}
 use denote.Ref.{now}
 use Rattle.particle.specs.Record.{particleOf}
-use Rattle.particle.proofs.Fields.{Bytes, bytes, part-identifier, part-mass, part-x, part-y, part-vx, part-vy, part-Bxx, part-Bxy, part-Byx, part-Byy}
+use Rattle.particle.proofs.Fields.{Bytes, bytes, first-part, first-read, last-read}
 use Rattle.particle.proofs.Signed.{signed-part}
 use Rattle.particle.proofs.unpack.Statement.{statement}
 use Rattle.particle.proofs.unpack.Tie as tie
 
-pair-requires : tie.Need-pair-requires
-pair-requires c κs = search needs
+word-requires : tie.Need-word-requires
+word-requires c κs = search needs
 
-pair-requires-2 : tie.Need-pair-requires-2
-pair-requires-2 c κs = search needs
+word-requires-2 : tie.Need-word-requires-2
+word-requires-2 c κs = search needs
 
-pair-requires-3 : tie.Need-pair-requires-3
-pair-requires-3 c κs = search needs
+low-requires : tie.Need-low-requires
+low-requires c κs = search needs
 
-pair-requires-4 : tie.Need-pair-requires-4
-pair-requires-4 c κs = search needs
+low-requires-2 : tie.Need-low-requires-2
+low-requires-2 c κs = search needs
 
-pair-requires-5 : tie.Need-pair-requires-5
-pair-requires-5 c κs = search needs
+low-requires-3 : tie.Need-low-requires-3
+low-requires-3 c κs = search needs
 
-pair-requires-6 : tie.Need-pair-requires-6
-pair-requires-6 c κs = search needs
+low-requires-4 : tie.Need-low-requires-4
+low-requires-4 c κs = search needs
 
-pair-requires-7 : tie.Need-pair-requires-7
-pair-requires-7 c κs = search needs
-
-mul-t11 : tie.Need-mul-t11
-mul-t11 c = search needs
-
-add-t13 : tie.Need-add-t13
-add-t13 c = search needs
-
-mul-t15 : tie.Need-mul-t15
-mul-t15 c = search needs
-
-add-t17 : tie.Need-add-t17
-add-t17 c = search needs
+low-requires-5 : tie.Need-low-requires-5
+low-requires-5 c κs = search needs
 
 signed-low-requires : tie.Need-signed-low-requires
 signed-low-requires c κs = search needs
 
+low-requires-6 : tie.Need-low-requires-6
+low-requires-6 c κs = search needs
+
 signed-low-requires-2 : tie.Need-signed-low-requires-2
 signed-low-requires-2 c κs = search needs
+
+low-requires-7 : tie.Need-low-requires-7
+low-requires-7 c κs = search needs
 
 signed-low-requires-3 : tie.Need-signed-low-requires-3
 signed-low-requires-3 c κs = search needs
 
-mul-signed-low : tie.Need-mul-signed-low
-mul-signed-low c = search needs
-
-add-signed-low : tie.Need-add-signed-low
-add-signed-low c = search needs
+low-requires-8 : tie.Need-low-requires-8
+low-requires-8 c κs = search needs
 
 signed-low-requires-4 : tie.Need-signed-low-requires-4
 signed-low-requires-4 c κs = search needs
 
-mul-signed-low-2 : tie.Need-mul-signed-low-2
-mul-signed-low-2 c = search needs
-
-add-signed-low-2 : tie.Need-add-signed-low-2
-add-signed-low-2 c = search needs
+low-requires-9 : tie.Need-low-requires-9
+low-requires-9 c κs = search needs
 
 signed-low-requires-5 : tie.Need-signed-low-requires-5
 signed-low-requires-5 c κs = search needs
+
+low-requires-10 : tie.Need-low-requires-10
+low-requires-10 c κs = search needs
 
 signed-low-requires-6 : tie.Need-signed-low-requires-6
 signed-low-requires-6 c κs = search needs
@@ -75,52 +67,44 @@ signed-low-requires-6 c κs = search needs
 returns : tie.Need-returns
 unfolding particleOf
 returns c =
-    let l = now (c .before .before .before .before .before .before .before .before .before .before .before .before .before .before .args .bytes) in
-    let known : Bytes l = bytes l (c .before .before .before .before .before .before .before .before .before .before .before .before .before .before .pre) (λ k. c .before .before .before .before .before .before .before .before .before .before .before .before .before .shared-slice-known .given k .fits) in
-    let a′ = c .before .before .before .before .before .before .before .before .before .before .before .before .pair .ensures in
-    let b′ = c .before .before .before .before .before .before .before .before .before .before .before .pair2 .ensures in
-    let c′ = c .before .before .before .before .before .before .before .before .before .before .pair3 .ensures in
-    let d′ = c .before .before .before .before .before .before .before .before .before .pair4 .ensures in
-    let e′ = c .before .before .before .before .before .before .before .before .pair5 .ensures in
-    let f′ = c .before .before .before .before .before .before .before .pair6 .ensures in
-    let g′ = c .before .before .before .before .before .before .pair7 .ensures in
+    let l = now (c .before .before .before .before .before .before .before .before .before .before .before .before .before .before .before .before .before .before .before .args .bytes) in
+    let known : Bytes l = bytes l (c .before .before .before .before .before .before .before .before .before .before .before .before .before .before .before .before .before .before .before .pre) (λ k. c .before .before .before .before .before .before .before .before .before .before .before .before .before .before .before .before .before .before .shared-slice-known .given k .fits) in
+    let first = c .before .before .before .before .before .before .before .before .before .before .before .before .before .before .before .before .before .word .ensures in
+    let last = c .before .before .before .before .before .before .before .before .before .before .before .before .before .before .before .before .word2 .ensures in
     λ i.
     record {
-      identifier = (a′ ∙ part-identifier l known) i;
-      mass = (ap (λ b. b / 64) b′ ∙ part-mass l known) i;
-      x = (ap₂ (λ b c. b % 64 * 64 + c / 1024) b′ c′ ∙ part-x l known) i;
-      y = (ap₂ (λ c d. c % 1024 * 4 + d / 16384) c′ d′ ∙ part-y l known) i;
-      vx = signed-part 64 (c .before .before .before .before .before .signed-low .ok) (c .before .before .before .before .before .signed-low .ensures) (ap (λ d. d / 128 % 128) d′ ∙ part-vx l known) i;
-      vy = signed-part 64 (c .before .before .before .before .signed-low2 .ok) (c .before .before .before .before .signed-low2 .ensures) (ap (λ d. d % 128) d′ ∙ part-vy l known) i;
-      bxx = signed-part 2048 (c .before .before .before .signed-low3 .ok) (c .before .before .before .signed-low3 .ensures) (ap (λ e. e / 16 % 4096) e′ ∙ part-Bxx l known) i;
-      bxy = signed-part 2048 (c .before .before .signed-low4 .ok) (c .before .before .signed-low4 .ensures) (ap₂ (λ e f. (e % 16 * 256 + f / 256) % 4096) e′ f′ ∙ part-Bxy l known) i;
-      byx = signed-part 2048 (c .before .signed-low5 .ok) (c .before .signed-low5 .ensures) (ap₂ (λ f g. (f % 256 * 16 + g / 4096) % 4096) f′ g′ ∙ part-Byx l known) i;
-      byy = signed-part 2048 (c .signed-low6 .ok) (c .signed-low6 .ensures) (ap (λ g. g % 4096) g′ ∙ part-Byy l known) i;
+      identifier = (c .before .before .before .before .before .before .before .before .before .before .before .before .before .before .before .low .ensures ∙ ap (λ n. n / 2 ^ 48 % 2 ^ 16) first ∙ first-part l known 48 16) i;
+      mass = first-read l known 38 10 6 refl first (c .before .before .before .before .before .before .before .before .before .before .before .before .before .before .low2 .ensures) i;
+      x = first-read l known 26 12 4 refl first (c .before .before .before .before .before .before .before .before .before .before .before .before .before .low3 .ensures) i;
+      y = first-read l known 14 12 4 refl first (c .before .before .before .before .before .before .before .before .before .before .before .before .low4 .ensures) i;
+      vx = signed-part 64 (c .before .before .before .before .before .before .before .before .before .before .signed-low .ok) (c .before .before .before .before .before .before .before .before .before .before .signed-low .ensures) (first-read l known 7 7 9 refl first (c .before .before .before .before .before .before .before .before .before .before .before .low5 .ensures)) i;
+      vy = signed-part 64 (c .before .before .before .before .before .before .before .before .signed-low2 .ok) (c .before .before .before .before .before .before .before .before .signed-low2 .ensures) (first-read l known 0 7 9 refl first (c .before .before .before .before .before .before .before .before .before .low6 .ensures ∙ ap (λ n. n % 65536) (sym (div-one _)))) i;
+      bxx = signed-part 2048 (c .before .before .before .before .before .before .signed-low3 .ok) (c .before .before .before .before .before .before .signed-low3 .ensures) (last-read l known 36 12 4 16 refl refl last (c .before .before .before .before .before .before .before .low7 .ensures)) i;
+      bxy = signed-part 2048 (c .before .before .before .before .signed-low4 .ok) (c .before .before .before .before .signed-low4 .ensures) (last-read l known 24 12 4 28 refl refl last (c .before .before .before .before .before .low8 .ensures)) i;
+      byx = signed-part 2048 (c .before .before .signed-low5 .ok) (c .before .before .signed-low5 .ensures) (last-read l known 12 12 4 40 refl refl last (c .before .before .before .low9 .ensures)) i;
+      byy = signed-part 2048 (c .signed-low6 .ok) (c .signed-low6 .ensures) (last-read l known 0 12 4 52 refl refl last (c .before .low10 .ensures ∙ ap (λ n. n % 65536) (sym (div-one _)))) i;
     }
 
 pub unpack-spec : {M : Type 1} → statement M
 unpack-spec =
     tie.close
     (tie.spec
-    pair-requires
-    pair-requires-2
-    pair-requires-3
-    pair-requires-4
-    pair-requires-5
-    pair-requires-6
-    pair-requires-7
-    mul-t11
-    add-t13
-    mul-t15
-    add-t17
+    word-requires
+    word-requires-2
+    low-requires
+    low-requires-2
+    low-requires-3
+    low-requires-4
+    low-requires-5
     signed-low-requires
+    low-requires-6
     signed-low-requires-2
+    low-requires-7
     signed-low-requires-3
-    mul-signed-low
-    add-signed-low
+    low-requires-8
     signed-low-requires-4
-    mul-signed-low-2
-    add-signed-low-2
+    low-requires-9
     signed-low-requires-5
+    low-requires-10
     signed-low-requires-6
     returns)
