@@ -2,54 +2,20 @@
 //! same number, values and buffers.
 
 use benchmark::library::{Library, OPTIMISED, PROVED};
+use compare::calls::by_library;
 use compare::inputs::{self, Call};
 use compare::{count, seed, stream};
-use engine::{GridBuffers, Header, Particle, Settings, Size};
 use reference::generator::Generator;
 use vectors::{Buffers, Operation};
 
-/// A number of a call as the libraries take it.
-fn number<T: TryFrom<i128>>(number: i128) -> T {
-    T::try_from(number).ok().expect("a number of the type")
-}
-
-fn size(size: reference::Size) -> Size {
-    Size {
-        nx: number(size.nx),
-        ny: number(size.ny),
-    }
-}
-
-fn settings(settings: reference::Settings) -> Settings {
-    Settings {
-        size: size(settings.size),
-        gx: number(settings.gx),
-        gy: number(settings.gy),
-    }
-}
-
-fn particle(p: reference::Particle) -> Particle {
-    Particle {
-        identifier: p.identifier,
-        mass: number(p.mass),
-        x: number(p.x),
-        y: number(p.y),
-        vx: number(p.vx),
-        vy: number(p.vy),
-        bxx: number(p.bxx),
-        bxy: number(p.bxy),
-        byx: number(p.byx),
-        byy: number(p.byy),
-    }
-}
-
-fn header(header: reference::Header) -> Header {
-    Header {
-        size: size(header.settings.size),
-        gx: number(header.settings.gx),
-        gy: number(header.settings.gy),
-        count: number(header.count),
-        steps: number(header.steps),
+/// How many values an operation hands out.
+fn room(operation: Operation) -> usize {
+    match operation {
+        Operation::ReadRecord => 10,
+        Operation::ReadFile => 6,
+        Operation::Totals(_) => 5,
+        Operation::Weights(_) => 3,
+        _ => 0,
     }
 }
 
@@ -58,34 +24,16 @@ fn call(
     library: &Library,
     operation: Operation,
     before: &Buffers,
-) -> (u64, [i64; 10], u64, Buffers) {
+) -> (u64, Vec<i64>, u64, Buffers) {
     let mut after = before.clone();
-    let (mut values, mut one) = ([i64::MIN; 10], u64::MAX / 2);
-    let bytes = &mut after.bytes;
-    let mut grid = GridBuffers {
-        mass: &mut after.grid.mass,
-        x: &mut after.grid.x,
-        y: &mut after.grid.y,
-    };
-    let single = std::slice::from_mut(&mut one);
-    let answer = match operation {
-        Operation::ReadRecord => library.read_record(bytes, &mut values),
-        Operation::WriteRecord(p) => library.write_record(&particle(p), bytes),
-        Operation::CheckSet(at) => library.check_set(size(at), bytes, single),
-        Operation::Totals(at) => library.totals(size(at), bytes, &mut values[..5]),
-        Operation::Weights(q) => library.weights(number(q), &mut values[..3]),
-        Operation::Scatter(at) => library.scatter(size(at), bytes, &mut grid),
-        Operation::Update(given) => library.update(settings(given), &mut grid),
-        Operation::Gather(at) => library.gather(size(at), bytes, grid.x, grid.y),
-        Operation::Step(given) => library.step(settings(given), bytes, &mut grid),
-        Operation::Run(given, steps) => {
-            library.run(settings(given), number(steps), bytes, &mut grid, single)
-        }
-        Operation::ReadFile => library.read_file(bytes, &mut values[..6]),
-        Operation::WriteHeader(h) => library.write_header(&header(h), bytes),
-        Operation::Program => panic!("not a call of the library"),
-    };
-    (answer, values, one, after)
+    let (mut values, mut one) = (vec![i64::MIN; room(operation)], [u64::MAX / 2]);
+    let answer = by_library(library, operation, &mut after, &mut values, &mut one);
+    (
+        answer.expect("numbers that the library takes"),
+        values,
+        one[0],
+        after,
+    )
 }
 
 /// Both libraries on many inputs.

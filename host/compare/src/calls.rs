@@ -1,5 +1,6 @@
 //! A call by the engine and by the reference.
 
+use engine::library::Library;
 use engine::GridBuffers;
 use reference::simulation::{run_by, step_by};
 use reference::transfer::{gather_by, scatter_by};
@@ -141,6 +142,41 @@ pub fn by_engine(operation: Operation, buffers: &mut Buffers) -> Option<Answer> 
         Operation::Program => return None,
     };
     Some(answer.unwrap_or_else(|refused| Answer::Refused(refusal(refused))))
+}
+
+/// The number that a library answers, with slices for the values, or for the one value, that the call
+/// hands out; the buffers are left as the operation leaves them. None as for [`by_engine`].
+pub fn by_library(
+    library: &Library,
+    operation: Operation,
+    buffers: &mut Buffers,
+    values: &mut [i64],
+    one: &mut [u64],
+) -> Option<u64> {
+    let bytes = &mut buffers.bytes;
+    let mut grid = GridBuffers {
+        mass: &mut buffers.grid.mass,
+        x: &mut buffers.grid.x,
+        y: &mut buffers.grid.y,
+    };
+    Some(match operation {
+        Operation::ReadRecord => library.read_record(bytes, values),
+        Operation::WriteRecord(p) => library.write_record(&to_engine(p)?, bytes),
+        Operation::CheckSet(at) => library.check_set(size(at)?, bytes, one),
+        Operation::Totals(at) => library.totals(size(at)?, bytes, values),
+        Operation::Weights(q) => library.weights(q.try_into().ok()?, values),
+        Operation::Scatter(at) => library.scatter(size(at)?, bytes, &mut grid),
+        Operation::Update(given) => library.update(settings(given)?, &mut grid),
+        Operation::Gather(at) => library.gather(size(at)?, bytes, grid.x, grid.y),
+        Operation::Step(given) => library.step(settings(given)?, bytes, &mut grid),
+        Operation::Run(given, steps) => {
+            let steps = steps.try_into().ok()?;
+            library.run(settings(given)?, steps, bytes, &mut grid, one)
+        }
+        Operation::ReadFile => library.read_file(bytes, values),
+        Operation::WriteHeader(header) => library.write_header(&to_header(header)?, bytes),
+        Operation::Program => return None,
+    })
 }
 
 /// Which sums the reference takes: all terms where they are few, and those near each particle else.

@@ -1,57 +1,13 @@
 //! A slice for the values of another length than they: the answer of its own, before anything else,
 //! and nothing changed.
 
-use compare::calls::by_reference;
+use compare::calls::{by_library, by_reference};
 use compare::inputs::{self, Call};
 use compare::{count, stream};
-use engine::ffi::{self, WRONG_OUTPUT};
+use engine::ffi::WRONG_OUTPUT;
+use engine::library::PROVED;
 use reference::generator::Generator;
-use vectors::{Buffers, Operation};
-
-/// A size or a count of a call as the library takes it.
-fn number(number: i128) -> usize {
-    number.try_into().expect("a number of the type")
-}
-
-/// The library's answer with these values, or with this slice for one value.
-fn answer(operation: Operation, buffers: &mut Buffers, values: &mut [i64], one: &mut [u64]) -> u64 {
-    let Buffers { bytes, grid } = buffers;
-    let (b, length) = (bytes.as_mut_ptr(), bytes.len());
-    let (v, room) = (values.as_mut_ptr(), values.len());
-    // SAFETY: all slices are valid and apart.
-    unsafe {
-        match operation {
-            Operation::ReadRecord => ffi::gondwize_read_record(b, length, v, room),
-            Operation::ReadFile => ffi::gondwize_read_file(b, length, v, room),
-            Operation::Weights(q) => ffi::gondwize_weights(q as i64, v, room),
-            Operation::Totals(size) => {
-                ffi::gondwize_totals(number(size.nx), number(size.ny), b, length, v, room)
-            }
-            Operation::CheckSet(size) => {
-                let (nx, ny) = (number(size.nx), number(size.ny));
-                ffi::gondwize_check_set(nx, ny, b, length, one.as_mut_ptr(), one.len())
-            }
-            Operation::Run(settings, steps) => ffi::gondwize_run(
-                number(settings.size.nx),
-                number(settings.size.ny),
-                settings.gx as i64,
-                settings.gy as i64,
-                number(steps),
-                b,
-                length,
-                grid.mass.as_mut_ptr(),
-                grid.mass.len(),
-                grid.x.as_mut_ptr(),
-                grid.x.len(),
-                grid.y.as_mut_ptr(),
-                grid.y.len(),
-                one.as_mut_ptr(),
-                one.len(),
-            ),
-            other => panic!("no values: {other:?}"),
-        }
-    }
-}
+use vectors::Operation;
 
 /// What the slices hold before a call; no result has it.
 const BEFORE: i64 = i64::MIN;
@@ -65,7 +21,8 @@ fn compare(name: &str, make: fn(&mut Generator) -> Call, right: usize) {
         let room = numbers.between(0, 12) as usize;
         let (mut values, mut one) = (vec![BEFORE; room], vec![ONE_BEFORE; room]);
         let mut after = before.clone();
-        let told = answer(operation, &mut after, &mut values, &mut one);
+        let told = by_library(&PROVED, operation, &mut after, &mut values, &mut one);
+        let told = told.expect("numbers that the library takes");
         let kept = values == vec![BEFORE; room] && one == vec![ONE_BEFORE; room];
         if room != right {
             assert!(told == WRONG_OUTPUT && kept && after == before, "{name}");

@@ -1,8 +1,6 @@
 //! The static library's functions as they are: `include/gondwize.h` in Rust.
 //!
-//! Each `&[T]` of the engine passes as a pointer and a length. The safe functions of this crate call
-//! these; tests call them for what the safe ones rule out, such as a slice of values of the wrong
-//! length.
+//! Each `&[T]` of the engine passes as a pointer and a length. [`crate::library`] calls these with slices.
 //!
 //! # Safety
 //!

@@ -35,7 +35,10 @@
 #![warn(missing_docs)]
 
 pub mod ffi;
+pub mod library;
 mod refusal;
+
+use library::PROVED;
 
 pub use refusal::{Limit, Refusal};
 
@@ -163,16 +166,7 @@ fn field<T: TryFrom<i64>>(value: i64) -> T {
 /// 1 length not 14; 4 mass zero; 5 a velocity of −64; 6 a B entry of −2048.
 pub fn read_record(bytes: &[u8]) -> Result<Particle, Refusal> {
     let mut values = [0; 10];
-    // SAFETY: both slices are valid and apart.
-    let code = unsafe {
-        ffi::gondwize_read_record(
-            bytes.as_ptr(),
-            bytes.len(),
-            values.as_mut_ptr(),
-            values.len(),
-        )
-    };
-    Refusal::check(code)?;
+    Refusal::check(PROVED.read_record(bytes, &mut values))?;
     let [identifier, mass, x, y, vx, vy, bxx, bxy, byx, byy] = values;
     Ok(Particle {
         identifier: field(identifier),
@@ -195,24 +189,7 @@ pub fn read_record(bytes: &[u8]) -> Result<Particle, Refusal> {
 /// 1 length not 14; 4 mass not 1 to 1023; 5 a velocity out of range; 6 a B entry out of range; 7 x or
 /// y above 4095.
 pub fn write_record(particle: &Particle, bytes: &mut [u8]) -> Result<(), Refusal> {
-    let p = particle;
-    // SAFETY: the slice is valid.
-    Refusal::check(unsafe {
-        ffi::gondwize_write_record(
-            p.identifier,
-            p.mass,
-            p.x,
-            p.y,
-            p.vx,
-            p.vy,
-            p.bxx,
-            p.bxy,
-            p.byx,
-            p.byy,
-            bytes.as_mut_ptr(),
-            bytes.len(),
-        )
-    })
+    Refusal::check(PROVED.write_record(particle, bytes))
 }
 
 /// Checks a set: the number of its records.
@@ -223,18 +200,7 @@ pub fn write_record(particle: &Particle, bytes: &mut [u8]) -> Result<(), Refusal
 /// 9.
 pub fn check_set(size: Size, records: &[u8]) -> Result<usize, Refusal> {
     let mut count = [0];
-    // SAFETY: both slices are valid and apart.
-    let code = unsafe {
-        ffi::gondwize_check_set(
-            size.nx,
-            size.ny,
-            records.as_ptr(),
-            records.len(),
-            count.as_mut_ptr(),
-            count.len(),
-        )
-    };
-    Refusal::check(code)?;
+    Refusal::check(PROVED.check_set(size, records, &mut count))?;
     Ok(count[0] as usize)
 }
 
@@ -245,18 +211,7 @@ pub fn check_set(size: Size, records: &[u8]) -> Result<usize, Refusal> {
 /// As [`check_set`].
 pub fn totals(size: Size, records: &[u8]) -> Result<Totals, Refusal> {
     let mut values = [0; 5];
-    // SAFETY: both slices are valid and apart.
-    let code = unsafe {
-        ffi::gondwize_totals(
-            size.nx,
-            size.ny,
-            records.as_ptr(),
-            records.len(),
-            values.as_mut_ptr(),
-            values.len(),
-        )
-    };
-    Refusal::check(code)?;
+    Refusal::check(PROVED.totals(size, records, &mut values))?;
     let [mass, px, py, angular_momentum, motion] = values;
     Ok(Totals {
         mass: field(mass),
@@ -275,8 +230,7 @@ pub fn totals(size: Size, records: &[u8]) -> Result<Totals, Refusal> {
 /// 7 offset outside −32 to 31.
 pub fn weights(q: i64) -> Result<[u16; 3], Refusal> {
     let mut values = [0; 3];
-    // SAFETY: the slice is valid.
-    Refusal::check(unsafe { ffi::gondwize_weights(q, values.as_mut_ptr(), values.len()) })?;
+    Refusal::check(PROVED.weights(q, &mut values))?;
     Ok(values.map(field))
 }
 
@@ -287,21 +241,7 @@ pub fn weights(q: i64) -> Result<[u16; 3], Refusal> {
 ///
 /// 2; 1, also where a grid buffer is not Nx·Ny long; then the set.
 pub fn scatter(size: Size, records: &[u8], grid: &mut GridBuffers) -> Result<(), Refusal> {
-    // SAFETY: all slices are valid and apart.
-    Refusal::check(unsafe {
-        ffi::gondwize_scatter(
-            size.nx,
-            size.ny,
-            records.as_ptr(),
-            records.len(),
-            grid.mass.as_mut_ptr(),
-            grid.mass.len(),
-            grid.x.as_mut_ptr(),
-            grid.x.len(),
-            grid.y.as_mut_ptr(),
-            grid.y.len(),
-        )
-    })
+    Refusal::check(PROVED.scatter(size, records, grid))
 }
 
 /// Node update: velocities in 256ths, gravity included, take the place of momenta; masses stay.
@@ -310,22 +250,7 @@ pub fn scatter(size: Size, records: &[u8], grid: &mut GridBuffers) -> Result<(),
 ///
 /// 2; 1 for the grid buffers; 10; then for each node 11, 12.
 pub fn update(settings: Settings, grid: &mut GridBuffers) -> Result<(), Refusal> {
-    let Settings { size, gx, gy } = settings;
-    // SAFETY: all slices are valid and apart.
-    Refusal::check(unsafe {
-        ffi::gondwize_update(
-            size.nx,
-            size.ny,
-            gx,
-            gy,
-            grid.mass.as_ptr(),
-            grid.mass.len(),
-            grid.x.as_mut_ptr(),
-            grid.x.len(),
-            grid.y.as_mut_ptr(),
-            grid.y.len(),
-        )
-    })
+    Refusal::check(PROVED.update(settings, grid))
 }
 
 /// Grid-to-particle transfer from node velocities: the records then hold the moved particles.
@@ -335,19 +260,7 @@ pub fn update(settings: Settings, grid: &mut GridBuffers) -> Result<(), Refusal>
 /// 2; 1, also for the velocity buffers; the set; 12 for each node; then for each record 13, 14, 15.
 /// No record moves if any is refused.
 pub fn gather(size: Size, records: &mut [u8], x: &[i64], y: &[i64]) -> Result<(), Refusal> {
-    // SAFETY: all slices are valid, and the records are apart from the others.
-    Refusal::check(unsafe {
-        ffi::gondwize_gather(
-            size.nx,
-            size.ny,
-            records.as_mut_ptr(),
-            records.len(),
-            x.as_ptr(),
-            x.len(),
-            y.as_ptr(),
-            y.len(),
-        )
-    })
+    Refusal::check(PROVED.gather(size, records, x, y))
 }
 
 /// One step: scatter, update, gather.
@@ -357,24 +270,7 @@ pub fn gather(size: Size, records: &mut [u8], x: &[i64], y: &[i64]) -> Result<()
 /// 2; 1, also for the grid buffers; 10; the set. Then for each record 13, 14, 15: the records are as
 /// they were, and the grid holds masses and updated velocities.
 pub fn step(settings: Settings, records: &mut [u8], grid: &mut GridBuffers) -> Result<(), Refusal> {
-    let Settings { size, gx, gy } = settings;
-    // SAFETY: all slices are valid and apart.
-    Refusal::check(unsafe {
-        ffi::gondwize_step(
-            size.nx,
-            size.ny,
-            gx,
-            gy,
-            records.as_mut_ptr(),
-            records.len(),
-            grid.mass.as_mut_ptr(),
-            grid.mass.len(),
-            grid.x.as_mut_ptr(),
-            grid.x.len(),
-            grid.y.as_mut_ptr(),
-            grid.y.len(),
-        )
-    })
+    Refusal::check(PROVED.step(settings, records, grid))
 }
 
 /// The step repeated, as often as wanted or until one is refused.
@@ -389,28 +285,8 @@ pub fn run(
     records: &mut [u8],
     grid: &mut GridBuffers,
 ) -> RunAnswer {
-    let Settings { size, gx, gy } = settings;
     let mut completed = [0];
-    // SAFETY: all slices are valid and apart.
-    let code = unsafe {
-        ffi::gondwize_run(
-            size.nx,
-            size.ny,
-            gx,
-            gy,
-            steps,
-            records.as_mut_ptr(),
-            records.len(),
-            grid.mass.as_mut_ptr(),
-            grid.mass.len(),
-            grid.x.as_mut_ptr(),
-            grid.x.len(),
-            grid.y.as_mut_ptr(),
-            grid.y.len(),
-            completed.as_mut_ptr(),
-            completed.len(),
-        )
-    };
+    let code = PROVED.run(settings, steps, records, grid, &mut completed);
     RunAnswer {
         completed: completed[0] as usize,
         refusal: Refusal::from_code(code),
@@ -424,16 +300,7 @@ pub fn run(
 /// 1 shorter than 9; 2; 10; 3; 17; 16; 1 length not 9 + 14·count; then the set.
 pub fn read_file(bytes: &[u8]) -> Result<Header, Refusal> {
     let mut values = [0; 6];
-    // SAFETY: both slices are valid and apart.
-    let code = unsafe {
-        ffi::gondwize_read_file(
-            bytes.as_ptr(),
-            bytes.len(),
-            values.as_mut_ptr(),
-            values.len(),
-        )
-    };
-    Refusal::check(code)?;
+    Refusal::check(PROVED.read_file(bytes, &mut values))?;
     let [nx, ny, gx, gy, count, steps] = values;
     Ok(Header {
         size: Size {
@@ -453,17 +320,5 @@ pub fn read_file(bytes: &[u8]) -> Result<Header, Refusal> {
 ///
 /// 1 length not 9; 2; 10; 3; 17.
 pub fn write_header(header: &Header, bytes: &mut [u8]) -> Result<(), Refusal> {
-    // SAFETY: the slice is valid.
-    Refusal::check(unsafe {
-        ffi::gondwize_write_header(
-            header.size.nx,
-            header.size.ny,
-            header.gx,
-            header.gy,
-            header.count,
-            header.steps,
-            bytes.as_mut_ptr(),
-            bytes.len(),
-        )
-    })
+    Refusal::check(PROVED.write_header(header, bytes))
 }

@@ -1,0 +1,315 @@
+//! The calls of `include/gondwize.h` on slices, with its numbers as answers.
+//!
+//! The safe functions of this crate call these; tests call them for what the safe ones rule out, such
+//! as a slice of values of the wrong length. A [`Library`] can be another one with the same calls.
+
+use crate::{ffi, GridBuffers, Header, Particle, Settings, Size};
+
+type Bytes = *const u8;
+type BytesOut = *mut u8;
+type Numbers = *const i64;
+type NumbersOut = *mut i64;
+type Masses = *const u64;
+type MassesOut = *mut u64;
+
+/// The functions of a library. Each does no more with its pointers than the one of [`ffi`] with its name.
+#[derive(Clone, Copy)]
+#[allow(missing_docs, clippy::type_complexity)]
+pub struct Library {
+    pub read_record: unsafe extern "C" fn(Bytes, usize, NumbersOut, usize) -> u64,
+    pub write_record: unsafe extern "C" fn(
+        u16,
+        u16,
+        u16,
+        u16,
+        i16,
+        i16,
+        i16,
+        i16,
+        i16,
+        i16,
+        BytesOut,
+        usize,
+    ) -> u64,
+    pub check_set: unsafe extern "C" fn(usize, usize, Bytes, usize, MassesOut, usize) -> u64,
+    pub totals: unsafe extern "C" fn(usize, usize, Bytes, usize, NumbersOut, usize) -> u64,
+    pub weights: unsafe extern "C" fn(i64, NumbersOut, usize) -> u64,
+    pub scatter: unsafe extern "C" fn(
+        usize,
+        usize,
+        Bytes,
+        usize,
+        MassesOut,
+        usize,
+        NumbersOut,
+        usize,
+        NumbersOut,
+        usize,
+    ) -> u64,
+    pub update: unsafe extern "C" fn(
+        usize,
+        usize,
+        i64,
+        i64,
+        Masses,
+        usize,
+        NumbersOut,
+        usize,
+        NumbersOut,
+        usize,
+    ) -> u64,
+    pub gather:
+        unsafe extern "C" fn(usize, usize, BytesOut, usize, Numbers, usize, Numbers, usize) -> u64,
+    pub step: unsafe extern "C" fn(
+        usize,
+        usize,
+        i64,
+        i64,
+        BytesOut,
+        usize,
+        MassesOut,
+        usize,
+        NumbersOut,
+        usize,
+        NumbersOut,
+        usize,
+    ) -> u64,
+    pub run: unsafe extern "C" fn(
+        usize,
+        usize,
+        i64,
+        i64,
+        usize,
+        BytesOut,
+        usize,
+        MassesOut,
+        usize,
+        NumbersOut,
+        usize,
+        NumbersOut,
+        usize,
+        MassesOut,
+        usize,
+    ) -> u64,
+    pub read_file: unsafe extern "C" fn(Bytes, usize, NumbersOut, usize) -> u64,
+    pub write_header:
+        unsafe extern "C" fn(usize, usize, i16, i16, usize, usize, BytesOut, usize) -> u64,
+}
+
+/// The static library of the proved crates.
+pub const PROVED: Library = Library {
+    read_record: ffi::gondwize_read_record,
+    write_record: ffi::gondwize_write_record,
+    check_set: ffi::gondwize_check_set,
+    totals: ffi::gondwize_totals,
+    weights: ffi::gondwize_weights,
+    scatter: ffi::gondwize_scatter,
+    update: ffi::gondwize_update,
+    gather: ffi::gondwize_gather,
+    step: ffi::gondwize_step,
+    run: ffi::gondwize_run,
+    read_file: ffi::gondwize_read_file,
+    write_header: ffi::gondwize_write_header,
+};
+
+// SAFETY, of every call below: the pointers are those of slices with their lengths, and what is
+// written to is borrowed by itself.
+impl Library {
+    /// Read a record: ten values.
+    pub fn read_record(&self, bytes: &[u8], values: &mut [i64]) -> u64 {
+        unsafe {
+            (self.read_record)(
+                bytes.as_ptr(),
+                bytes.len(),
+                values.as_mut_ptr(),
+                values.len(),
+            )
+        }
+    }
+
+    /// Write a record.
+    pub fn write_record(&self, p: &Particle, bytes: &mut [u8]) -> u64 {
+        unsafe {
+            (self.write_record)(
+                p.identifier,
+                p.mass,
+                p.x,
+                p.y,
+                p.vx,
+                p.vy,
+                p.bxx,
+                p.bxy,
+                p.byx,
+                p.byy,
+                bytes.as_mut_ptr(),
+                bytes.len(),
+            )
+        }
+    }
+
+    /// Check a set: one value.
+    pub fn check_set(&self, size: Size, records: &[u8], count: &mut [u64]) -> u64 {
+        unsafe {
+            (self.check_set)(
+                size.nx,
+                size.ny,
+                records.as_ptr(),
+                records.len(),
+                count.as_mut_ptr(),
+                count.len(),
+            )
+        }
+    }
+
+    /// Totals: five values.
+    pub fn totals(&self, size: Size, records: &[u8], values: &mut [i64]) -> u64 {
+        unsafe {
+            (self.totals)(
+                size.nx,
+                size.ny,
+                records.as_ptr(),
+                records.len(),
+                values.as_mut_ptr(),
+                values.len(),
+            )
+        }
+    }
+
+    /// Weights: three values.
+    pub fn weights(&self, q: i64, values: &mut [i64]) -> u64 {
+        unsafe { (self.weights)(q, values.as_mut_ptr(), values.len()) }
+    }
+
+    /// Scatter.
+    pub fn scatter(&self, size: Size, records: &[u8], grid: &mut GridBuffers) -> u64 {
+        unsafe {
+            (self.scatter)(
+                size.nx,
+                size.ny,
+                records.as_ptr(),
+                records.len(),
+                grid.mass.as_mut_ptr(),
+                grid.mass.len(),
+                grid.x.as_mut_ptr(),
+                grid.x.len(),
+                grid.y.as_mut_ptr(),
+                grid.y.len(),
+            )
+        }
+    }
+
+    /// Update.
+    pub fn update(&self, settings: Settings, grid: &mut GridBuffers) -> u64 {
+        let Settings { size, gx, gy } = settings;
+        unsafe {
+            (self.update)(
+                size.nx,
+                size.ny,
+                gx,
+                gy,
+                grid.mass.as_ptr(),
+                grid.mass.len(),
+                grid.x.as_mut_ptr(),
+                grid.x.len(),
+                grid.y.as_mut_ptr(),
+                grid.y.len(),
+            )
+        }
+    }
+
+    /// Gather.
+    pub fn gather(&self, size: Size, records: &mut [u8], x: &[i64], y: &[i64]) -> u64 {
+        unsafe {
+            (self.gather)(
+                size.nx,
+                size.ny,
+                records.as_mut_ptr(),
+                records.len(),
+                x.as_ptr(),
+                x.len(),
+                y.as_ptr(),
+                y.len(),
+            )
+        }
+    }
+
+    /// Step.
+    pub fn step(&self, settings: Settings, records: &mut [u8], grid: &mut GridBuffers) -> u64 {
+        let Settings { size, gx, gy } = settings;
+        unsafe {
+            (self.step)(
+                size.nx,
+                size.ny,
+                gx,
+                gy,
+                records.as_mut_ptr(),
+                records.len(),
+                grid.mass.as_mut_ptr(),
+                grid.mass.len(),
+                grid.x.as_mut_ptr(),
+                grid.x.len(),
+                grid.y.as_mut_ptr(),
+                grid.y.len(),
+            )
+        }
+    }
+
+    /// Run: one value.
+    pub fn run(
+        &self,
+        settings: Settings,
+        steps: usize,
+        records: &mut [u8],
+        grid: &mut GridBuffers,
+        completed: &mut [u64],
+    ) -> u64 {
+        let Settings { size, gx, gy } = settings;
+        unsafe {
+            (self.run)(
+                size.nx,
+                size.ny,
+                gx,
+                gy,
+                steps,
+                records.as_mut_ptr(),
+                records.len(),
+                grid.mass.as_mut_ptr(),
+                grid.mass.len(),
+                grid.x.as_mut_ptr(),
+                grid.x.len(),
+                grid.y.as_mut_ptr(),
+                grid.y.len(),
+                completed.as_mut_ptr(),
+                completed.len(),
+            )
+        }
+    }
+
+    /// Read a file: six values.
+    pub fn read_file(&self, bytes: &[u8], values: &mut [i64]) -> u64 {
+        unsafe {
+            (self.read_file)(
+                bytes.as_ptr(),
+                bytes.len(),
+                values.as_mut_ptr(),
+                values.len(),
+            )
+        }
+    }
+
+    /// Write a header.
+    pub fn write_header(&self, h: &Header, bytes: &mut [u8]) -> u64 {
+        unsafe {
+            (self.write_header)(
+                h.size.nx,
+                h.size.ny,
+                h.gx,
+                h.gy,
+                h.count,
+                h.steps,
+                bytes.as_mut_ptr(),
+                bytes.len(),
+            )
+        }
+    }
+}
