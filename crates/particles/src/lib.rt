@@ -243,8 +243,7 @@ fn next_record(
     }
 }
 
-// The totals of `count` records from byte `start` on, each checked. `set_totals` calls it, and so does whoever has
-// records behind a header.
+// The totals of `count` records from byte `start` on, each checked. `set_totals` calls it.
 pub fn walk(nx: usize, ny: usize, bytes: &[u8], start: usize, count: usize) -> Totalled
     requires { ⌜ SizeLimits nx ny × (count ≤ 4096) × (start + 14 * count ≤ length (now bytes)) ⌝ }
     ensures { λ r. ⌜ toldTotalled r ≡ walked nx ny start (now (bytes .entry)) count ⌝ }

@@ -1,5 +1,5 @@
 // The particle-to-grid transfer of one particle: its shares of mass and momentum are added to the nine nodes around it, line
-// by line. `scatter_core` calls this.
+// by line. `scatter_particle` calls this.
 ghost use mathlib.Core.Path.{_≡_};
 ghost use Prim.Native.Nat.{_*_, _≤_};
 ghost use lib.ListN.{length};
