@@ -3,6 +3,7 @@
 --     beyond-low, beyond-high    a number against ±most, in two comparisons
 --     off-low, off-high          a coordinate against the two ends of an axis
 --     check-follow, checks-follow, checks-append     records that pass leave the answer to what follows
+--     refused-at                 a record is refused at its own index
 --     Passed, passed             what is known of a record that passes
 -- Assumes nothing.
 use mathlib.Core.Path.{_≡_, refl, sym, ap, subst, _∙_}
@@ -19,6 +20,8 @@ use mir.Facts.{and-yes}
 use borrow.Author.Tests.{lt-ltb, le-ltb, leb-true, leb-false, lt-leb, le-leb, ltb-true, ltb-false, not-false}
 use Rattle.arith.specs.Order.{linear, reading, ltZ-true, ltZ-false}
 use Rattle.refusal.specs.Refused.{Answer, result, refused, refuseIf}
+use Rattle.refusal.proofs.Answers.{not-refused}
+use Rattle.refusal.proofs.Answers as answers
 use Rattle.spline.specs.Spline.{onAxis}
 use Rattle.particle.specs.declared.Particle.{Particle}
 use Rattle.apic.specs.Step.{newCoordinate, alongX, alongY}
@@ -91,17 +94,20 @@ checks-append nx ny move k (p ∷ ps) qs rest =
     next : (n : ℕ) → suc k + n ≡ k + suc n
     next n = omega arith
 
--- ---- a record that passes
+-- ---- a record that is refused, and one that passes
 
-pub refused-not : {A B : Type 0} {n k : ℕ} {a : A} → refused n k ≡ result a → B
-refused-not {a} e = let z : _≡_ {A = ℕ} 0 1 = cc in absurd (clash z)
-  where
-    clash : _≡_ {A = ℕ} 0 1 → ⊥
-    clash z = omega arith
+one-at : (t : Bool) (i k : ℕ) (a : Answer (Unit {0})) {n j : ℕ} → (a ≡ refused n j → j ≡ k) → refuseIf t i k a ≡ refused n j → j ≡ k
+one-at true i k a h e = cc
+one-at false i k a h e = h e
 
-passes-one : {A : Type 0} (t : Bool) (n k : ℕ) (a : Answer A) {u : A} → refuseIf t n k a ≡ result u → (t ≡ false) × (a ≡ result u)
-passes-one true n k a e = refused-not e
-passes-one false n k a e = (refl, e)
+-- a record is refused at its own index
+pub refused-at : (nx ny : ℕ) (p q : Particle) (k n j : ℕ) → moveCheck {A = Unit {0}} nx ny p q k (result tt) ≡ refused n j → j ≡ k
+unfolding moveCheck
+refused-at nx ny p q k n j e =
+    one-at (tooFast (q .vx) (q .vy)) 13 k _
+    (one-at (tooSteep (q .bxx) (q .bxy) (q .byx) (q .byy)) 14 k _
+    (one-at (offGrid nx ny (newCoordinate alongX p (q .vx)) (newCoordinate alongY p (q .vy))) 15 k (result tt) (λ no. not-refused no)))
+    e
 
 or-false : (a b : Bool) → a || b ≡ false → (a ≡ false) × (b ≡ false)
 or-false true b e = absurd (subst T e tt)
@@ -126,9 +132,9 @@ pub record Passed (nx ny : ℕ) (p q : Particle) : Type 0 where
 pub passed : {A : Type 0} (nx ny : ℕ) (p q : Particle) (k : ℕ) (rest : Answer A) {u : A} → moveCheck nx ny p q k rest ≡ result u → Passed nx ny p q × (rest ≡ result u)
 unfolding moveCheck
 passed nx ny p q k rest e =
-    let first = passes-one (tooFast (q .vx) (q .vy)) 13 k _ e in
-    let second = passes-one (tooSteep (q .bxx) (q .bxy) (q .byx) (q .byy)) 14 k _ (first .1) in
-    let third = passes-one (offGrid nx ny (newCoordinate alongX p (q .vx)) (newCoordinate alongY p (q .vy))) 15 k rest (second .1) in
+    let first = answers.passed (tooFast (q .vx) (q .vy)) 13 k _ e in
+    let second = answers.passed (tooSteep (q .bxx) (q .bxy) (q .byx) (q .byy)) 14 k _ (first .1) in
+    let third = answers.passed (offGrid nx ny (newCoordinate alongX p (q .vx)) (newCoordinate alongY p (q .vy))) 15 k rest (second .1) in
     let v = or-false (beyond 63 (q .vx)) (beyond 63 (q .vy)) (first .0) in
     let b = or-false (beyond 2047 (q .bxx) || beyond 2047 (q .bxy)) (beyond 2047 (q .byx) || beyond 2047 (q .byy)) (second .0) in
     let bx = or-false (beyond 2047 (q .bxx)) (beyond 2047 (q .bxy)) (b .0) in

@@ -1,11 +1,14 @@
 -- A gather that is not refused keeps a particle set within its limits.
 --     set-kept      the moved particles are within the limits
---     target-set    the array that `gather_from` leaves holds such a set
+--     all-moved     the array that `gather_from` then leaves holds the moved particles
+--     target-set    and is such a set
 -- Assumes nothing.
 use mathlib.Core.Path.{_≡_, refl, sym, ap, ap₂, subst, subst₂, _∙_}
-use mathlib.Core.List.{List, [], _∷_, map}
-use Prim.Native.Nat.{ℕ, suc, _+_, _≤_, _<_}
-use lib.ListN.{length-map}
+use mathlib.Core.List.{List, [], _∷_, _++_, map, append-nil}
+use Prim.Native.Nat.{ℕ, suc, _+_, _*_, _≤_, _<_}
+use native.Mathlib.Omega.{arith}
+use lib.ListN.{length, length-map, drop-of-length-le}
+use lib.Seq.{take-length}
 use lib.IntN.{ℤ}
 use Rattle.arith.specs.Sums.{Each}
 use Rattle.refusal.specs.Refused.{result}
@@ -14,9 +17,9 @@ use Rattle.apic.specs.Step.{moved}
 use Rattle.apic.specs.Totals.{totalMass}
 use Rattle.apic.specs.Limits.{ParticleLimits, SetLimits, Rising}
 use Rattle.unpacked.specs.Unpacked.{unpacked, particlesOf, UnpackedSet}
-use Rattle.unpacked.proofs.Laws.{particlesOf-unpacked}
+use Rattle.unpacked.proofs.Laws.{count, particlesOf-unpacked}
 use Rattle.gather_core.specs.declared.Gathered.{Gathered}
-use Rattle.gather_core.specs.Gather.{gathered, moveChecks, toldGathered, GathersFrom}
+use Rattle.gather_core.specs.Gather.{gathered, moveChecks, answerFrom, toldGathered, movedBefore, movedInto, targetFrom, Gatherable, GathersFrom}
 use Rattle.gather_core.proofs.Checks.{Passed, passed}
 
 -- identifiers and masses are kept, by any move
@@ -74,15 +77,26 @@ module _ (nx ny : ℕ) (ux uy : List ℤ) where
         mass = subst (λ n. n ≤ 131072) (sym (mass-kept (gathered nx ny ux uy) same-identifier same-mass ps)) (l .mass);
       }
 
-pub target-set : {first nx ny : ℕ} {source ux uy target : List ℤ} {r : Gathered} → GathersFrom first nx ny source ux uy target r → toldGathered r ≡ result tt → UnpackedSet nx ny source → UnpackedSet nx ny target
-target-set {first} {nx} {ny} {source} {ux} {uy} {target} g done s =
-    record {
-      is = holds ∙ ap unpacked (sym reads);
-      limits = subst (SetLimits nx ny) (sym reads) (set-kept nx ny ux uy first (particlesOf source) (s .limits) (sym (g .answer) ∙ done));
-    }
-  where
-    holds : target ≡ unpacked (map (gathered nx ny ux uy) (particlesOf source))
-    holds = g .particles done
+-- ---- the target of a call that is not refused
 
-    reads : particlesOf target ≡ map (gathered nx ny ux uy) (particlesOf source)
-    reads = ap particlesOf holds ∙ particlesOf-unpacked (map (gathered nx ny ux uy) (particlesOf source))
+module _ {first nx ny : ℕ} {source ux uy target target′ : List ℤ} {weights : List (List ℕ)} {r : Gathered} (given : Gatherable nx ny source weights ux uy target) (g : GathersFrom first nx ny source ux uy target target′ r) (done : toldGathered r ≡ result tt) where
+  passes : answerFrom first nx ny ux uy (particlesOf source) ≡ result tt
+  passes = sym (g .answer) ∙ done
+
+  pub all-moved : target′ ≡ unpacked (map (gathered nx ny ux uy) (particlesOf source))
+  unfolding targetFrom
+  all-moved =
+      g .target-is
+      ∙ ap (λ a. movedInto (gathered nx ny ux uy) (movedBefore a first (length (particlesOf source))) (particlesOf source) target) passes
+      ∙ ap₂ (λ ps l. unpacked (map (gathered nx ny ux uy) ps) ++ l) (take-length (particlesOf source)) (drop-of-length-le target {i = 10 * length (particlesOf source)} (omega (arith, given .room, count (given .particles))))
+      ∙ append-nil (unpacked (map (gathered nx ny ux uy) (particlesOf source)))
+
+  pub target-set : UnpackedSet nx ny target′
+  target-set =
+      record {
+        is = all-moved ∙ ap unpacked (sym reads);
+        limits = subst (SetLimits nx ny) (sym reads) (set-kept nx ny ux uy first (particlesOf source) (given .particles .limits) passes);
+      }
+    where
+      reads : particlesOf target′ ≡ map (gathered nx ny ux uy) (particlesOf source)
+      reads = ap particlesOf all-moved ∙ particlesOf-unpacked (map (gathered nx ny ux uy) (particlesOf source))

@@ -25,7 +25,7 @@ use Rattle.gather_point.specs.declared.AffineVelocity.{AffineVelocity}
 use Rattle.gather_core.specs.declared.Gathered.{Gathered}
 use Rattle.gather_point.specs.Point.{Around}
 use Rattle.gather_core.specs.Gather.{gathered, moveCheck, NodeVelocities, Gatherable}
-use Rattle.gather_core.specs.Parts.{checkOf, particleStored, Settled, MovesOne, alongXOf, alongYOf}
+use Rattle.gather_core.specs.Parts.{checkOf, particleStored, unlessRefused, movedStored, Settled, MovesOne, alongXOf, alongYOf}
 use Rattle.gather_point.proofs.Nodes.{axisOf, nodes-inside}
 
 on-axis : (n x : ℕ) → n ≤ 48 → T (onAxis n x) → (32 ≤ x) × (x ≤ 4095)
@@ -95,11 +95,13 @@ placed {nx} {ny} {source} {ux} {uy} g k h =
     nodes u v = nodes-inside nx ny (particleAt source k .x) (particleAt source k .y) (length u) (touched nx (particleAt source k .x) (l .x-on)) (touched ny (particleAt source k .y) (l .y-on)) (v .count)
 
 pub moves : (nx ny index k : ℕ) (p q : Particle) {identifier mass x y : ℤ} {a b : AffineVelocity} {target target′ : List ℤ} {r : Gathered} → Settled index k nx ny identifier mass (x +ℤ a .v) (y +ℤ b .v) a b target target′ r → identifier ≡ pos (p .identifier) → mass ≡ pos (p .mass) → x ≡ pos (p .x) → y ≡ pos (p .y) → a ≡ alongXOf q → b ≡ alongYOf q → MovesOne nx ny index k p q target target′ r
-unfolding checkOf moveCheck
-moves nx ny index k p q {target} s is-identifier is-mass is-x is-y is-a is-b =
+unfolding checkOf moveCheck movedStored
+moves nx ny index k p q {target} {r} s is-identifier is-mass is-x is-y is-a is-b =
     record {
-      stored = s .stored ∙ (λ i. particleStored target (10 * k) (is-identifier i) (is-mass i) (is-x i +ℤ is-a i .v) (is-y i +ℤ is-b i .v) (is-a i) (is-b i));
       answer = s .answer ∙ (λ i. checkOf index nx ny (is-x i +ℤ is-a i .v) (is-y i +ℤ is-b i .v) (is-a i) (is-b i));
+      target-is =
+          s .target-is
+          ∙ (λ i. unlessRefused r (particleStored target (10 * k) (is-identifier i) (is-mass i) (is-x i +ℤ is-a i .v) (is-y i +ℤ is-b i .v) (is-a i) (is-b i)) target);
     }
 
 -- a particle's own axes after the gather

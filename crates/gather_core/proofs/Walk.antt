@@ -1,33 +1,33 @@
 -- The walk over the records.
---     Walk          k records are moved, and the answer is that of the others
+--     Walk          k records are moved, what stands behind them is as it was, and the answer is that of the others
 --     start, turn, stop, end     it begins, goes on, leaves with a refusal, and ends
 -- Assumes nothing.
 use mathlib.Core.Path.{_≡_, refl, sym, ap, ap₂, _∙_}
 use mathlib.Core.List.{List, [], _∷_, _++_, map, map-append}
-use Prim.Native.Nat.{ℕ, suc, _+_, _*_, _≤_, _<_}
+use Prim.Native.Nat.{ℕ, suc, _+_, _-_, _*_, _≤_, _<_}
 use native.Mathlib.Nat.{add-zero}
 use native.Mathlib.Numerals.{add-one}
 use native.Mathlib.Omega.{arith}
-use lib.ListN.{length, take, drop, getD, set, length-map}
-use lib.Seq.{take-suc, drop-cons, take-length, drop-length, length-take-le}
+use lib.ListN.{length, take, drop, getD, set, length-map, take-append-drop}
+use lib.Seq.{take-suc, drop-cons, drop-length, drop-drop, drop-set-lt, length-take-le}
 use lib.IntN.{ℤ, pos}
 use lib.Signed.{pos-natAbs}
 use Rattle.refusal.specs.declared.Refusal.{Refusal}
-use Rattle.refusal.specs.Refused.{Answer, result}
+use Rattle.refusal.specs.Refused.{Answer, result, number, place, refusedBy}
 use Rattle.particle.specs.declared.Particle.{Particle}
 use Rattle.apic.specs.Step.{moved, newCoordinate, alongX, alongY}
 use Rattle.unpacked.specs.Unpacked.{unpacked, particleAt, particlesOf, UnpackedSet}
-use Rattle.unpacked.proofs.Laws.{count, particle-of, stored, length-stored, take-stored, all-stored}
+use Rattle.unpacked.proofs.Laws.{count, particle-of, stored, length-stored, take-stored}
 use Rattle.gather_core.specs.declared.Gathered.{Gathered}
 use Rattle.gather_core.specs.declared.Gathered.the-variants.{Done, Refused}
-use Rattle.gather_core.specs.Gather.{gathered, moveChecks, answerFrom, toldGathered, GathersFrom}
-use Rattle.gather_core.specs.Parts.{fiveStored, particleStored, MovesOne, alongXOf, alongYOf}
-use Rattle.gather_core.proofs.Checks.{follow, check-follow, refused-not, Passed, passed}
+use Rattle.gather_core.specs.Gather.{gathered, moveChecks, answerFrom, toldGathered, movedBefore, movedInto, targetFrom, GathersFrom}
+use Rattle.gather_core.specs.Parts.{fiveStored, particleStored, unlessRefused, movedStored, MovesOne}
+use Rattle.gather_core.proofs.Checks.{follow, check-follow, refused-at, Passed, passed}
 
 -- ---- a record that passes is stored whole
 
-stored-is : (nx ny : ℕ) (ux uy : List ℤ) (l : List ℤ) (at : ℕ) (p : Particle) → Passed nx ny p (gathered nx ny ux uy p) → particleStored l at (pos (p .identifier)) (pos (p .mass)) (newCoordinate alongX p (gathered nx ny ux uy p .vx)) (newCoordinate alongY p (gathered nx ny ux uy p .vy)) (alongXOf (gathered nx ny ux uy p)) (alongYOf (gathered nx ny ux uy p)) ≡ stored l at (gathered nx ny ux uy p)
-unfolding particleStored fiveStored moved
+stored-is : (nx ny : ℕ) (ux uy : List ℤ) (l : List ℤ) (at : ℕ) (p : Particle) → Passed nx ny p (gathered nx ny ux uy p) → movedStored l at p (gathered nx ny ux uy p) ≡ stored l at (gathered nx ny ux uy p)
+unfolding movedStored particleStored fiveStored moved
 stored-is nx ny ux uy l at p h =
     λ i. set (set (set (set (set (set (set (set (set (set l at (pos (p .identifier))) (at + 1) (pos (p .mass)))
     (at + 2) (sym (pos-natAbs (newCoordinate alongX p (gathered nx ny ux uy p .vx)) (h .x .0)) i))
@@ -47,6 +47,21 @@ stored-is nx ny ux uy l at p h =
     nine : at + 5 + 4 ≡ at + 9
     nine = omega arith
 
+-- and keeps what stands behind it
+drop-stored : (l : List ℤ) (at n : ℕ) (q : Particle) → at + 10 ≤ n → drop n (stored l at q) ≡ drop n l
+drop-stored l at n q h =
+    let h₀ : at < n = omega arith in
+    let h₁ : at + 1 < n = omega arith in
+    let h₂ : at + 2 < n = omega arith in
+    let h₃ : at + 3 < n = omega arith in
+    let h₄ : at + 4 < n = omega arith in
+    let h₅ : at + 5 < n = omega arith in
+    let h₆ : at + 6 < n = omega arith in
+    let h₇ : at + 7 < n = omega arith in
+    let h₈ : at + 8 < n = omega arith in
+    let h₉ : at + 9 < n = omega arith in
+    simp drop-set-lt
+
 -- ---- the walk
 
 -- record k after its move
@@ -57,36 +72,43 @@ movedAt nx ny source ux uy k = gathered nx ny ux uy (particleAt source k)
 abbrev pub checksFrom : ℕ → ℕ → ℕ → List ℤ → List ℤ → List ℤ → ℕ → Answer (Unit {0})
 checksFrom first nx ny source ux uy k = answerFrom (first + k) nx ny ux uy (drop k (particlesOf source))
 
-pub record Walk (first nx ny : ℕ) (source ux uy : List ℤ) (k : ℕ) (target : List ℤ) : Type 0 where
+pub record Walk (first nx ny : ℕ) (source ux uy target₀ : List ℤ) (k : ℕ) (target : List ℤ) : Type 0 where
   pub most : k ≤ length (particlesOf source)
   pub room : length target ≡ length source
   pub taken : take (10 * k) target ≡ unpacked (map (gathered nx ny ux uy) (take k (particlesOf source)))
+  pub behind : drop (10 * k) target ≡ drop (10 * k) target₀
   pub answer : answerFrom first nx ny ux uy (particlesOf source) ≡ checksFrom first nx ny source ux uy k
 
-pub start : (first nx ny : ℕ) (source ux uy target : List ℤ) → length target ≡ length source → Walk first nx ny source ux uy 0 target
+pub start : (first nx ny : ℕ) (source ux uy target : List ℤ) → length target ≡ length source → Walk first nx ny source ux uy target 0 target
 unfolding unpacked
 start first nx ny source ux uy target e =
     record {
       most = omega arith;
       room = e;
       taken = refl;
+      behind = refl;
       answer = ap (λ n. answerFrom n nx ny ux uy (particlesOf source)) (sym (add-zero first));
     }
 
-module _ {first nx ny : ℕ} {source ux uy : List ℤ} (s : UnpackedSet nx ny source) where
-  module _ {k : ℕ} {target : List ℤ} (w : Walk first nx ny source ux uy k target) where
-    pub end : length (particlesOf source) ≤ k → GathersFrom first nx ny source ux uy target Done
+-- the target of a call that ends with this answer, once k records are moved
+target-of : {first nx ny : ℕ} {source ux uy target₀ : List ℤ} {k : ℕ} {target : List ℤ} → Walk first nx ny source ux uy target₀ k target → (a : Answer (Unit {0})) → answerFrom first nx ny ux uy (particlesOf source) ≡ a → movedBefore a first (length (particlesOf source)) ≡ k → target ≡ targetFrom first nx ny ux uy (particlesOf source) target₀
+unfolding targetFrom
+target-of {first} {nx} {ny} {source} {ux} {uy} {target₀} {k} {target} w a is many =
+    sym (take-append-drop (10 * k) target)
+    ∙ ap₂ _++_ (w .taken) (w .behind)
+    ∙ ap (λ n. movedInto (gathered nx ny ux uy) n (particlesOf source) target₀) (sym many ∙ ap (λ b. movedBefore b first (length (particlesOf source))) (sym is))
+
+module _ {first nx ny : ℕ} {source ux uy target₀ : List ℤ} (s : UnpackedSet nx ny source) where
+  module _ {k : ℕ} {target : List ℤ} (w : Walk first nx ny source ux uy target₀ k target) where
+    pub end : length (particlesOf source) ≤ k → GathersFrom first nx ny source ux uy target₀ target Done
     unfolding moveChecks
-    end h =
-        record {
-          answer = sym (w .answer ∙ ap (answerFrom (first + k) nx ny ux uy) (ap (λ n. drop n (particlesOf source)) all ∙ drop-length (particlesOf source)));
-          particles =
-              λ e. all-stored target (map (gathered nx ny ux uy) (particlesOf source)) (w .room ∙ count s ∙ ap (λ n. 10 * n) (sym (length-map (particlesOf source) (gathered nx ny ux uy))))
-              (ap (λ n. take (10 * n) target) (length-map (particlesOf source) (gathered nx ny ux uy) ∙ sym all) ∙ w .taken ∙ ap (λ l. unpacked (map (gathered nx ny ux uy) l)) (ap (λ n. take n (particlesOf source)) all ∙ take-length (particlesOf source)));
-        }
+    end h = record { answer = sym passes; target-is = target-of w (result tt) passes (sym all) }
       where
         all : k ≡ length (particlesOf source)
         all = omega (arith, w .most)
+
+        passes : answerFrom first nx ny ux uy (particlesOf source) ≡ result tt
+        passes = w .answer ∙ ap (answerFrom (first + k) nx ny ux uy) (ap (λ n. drop n (particlesOf source)) all ∙ drop-length (particlesOf source))
 
     module _ (h : k < length (particlesOf source)) {target′ : List ℤ} {r : Gathered} (m : MovesOne nx ny (first + k) k (particleAt source k) (movedAt nx ny source ux uy k) target target′ r) where
       -- the answer of record k and of those behind it
@@ -101,14 +123,23 @@ module _ {first nx ny : ℕ} {source ux uy : List ℤ} (s : UnpackedSet nx ny so
           next : suc (first + k) ≡ first + (k + 1)
           next = omega arith
 
-      pub stop : (e : Refusal) → r ≡ Refused e → GathersFrom first nx ny source ux uy target′ (Refused e)
+      pub stop : (e : Refusal) → r ≡ Refused e → GathersFrom first nx ny source ux uy target₀ target′ (Refused e)
       stop e is =
           record {
-            answer = sym (from-here ∙ ap (λ a. follow (toldGathered a) (checksFrom first nx ny source ux uy (k + 1))) is);
-            particles = λ no. refused-not no;
+            answer = sym refuses;
+            target-is = m .target-is ∙ ap (λ a. unlessRefused a (movedStored target (10 * k) (particleAt source k) (movedAt nx ny source ux uy k)) target) is ∙ target-of w (refusedBy e) refuses here;
           }
+        where
+          refuses : answerFrom first nx ny ux uy (particlesOf source) ≡ refusedBy e
+          refuses = from-here ∙ ap (λ a. follow (toldGathered a) (checksFrom first nx ny source ux uy (k + 1))) is
 
-      pub turn : r ≡ Done → Walk first nx ny source ux uy (k + 1) target′
+          at-record : place e ≡ first + k
+          at-record = refused-at nx ny (particleAt source k) (movedAt nx ny source ux uy k) (first + k) (number e) (place e) (sym (m .answer) ∙ ap toldGathered is)
+
+          here : place e - first ≡ k
+          here = omega (arith, at-record)
+
+      pub turn : r ≡ Done → Walk first nx ny source ux uy target₀ (k + 1) target′
       turn is =
           record {
             most = omega (arith, h);
@@ -117,12 +148,20 @@ module _ {first nx ny : ℕ} {source ux uy : List ℤ} (s : UnpackedSet nx ny so
                 ap (λ l. take (10 * (k + 1)) l) is-stored
                 ∙ take-stored target (map (gathered nx ny ux uy) (take k (particlesOf source))) (movedAt nx ny source ux uy k) k (length-map (take k (particlesOf source)) (gathered nx ny ux uy) ∙ length-take-le k (particlesOf source) (w .most)) (omega (arith, h, w .room, count s)) (w .taken)
                 ∙ ap unpacked (sym more);
+            behind = ap (drop (10 * (k + 1))) is-stored ∙ drop-stored target (10 * k) (10 * (k + 1)) (movedAt nx ny source ux uy k) (omega arith) ∙ further (w .behind);
             answer = from-here ∙ ap (λ a. follow (toldGathered a) (checksFrom first nx ny source ux uy (k + 1))) is;
           }
         where
+          next : 10 * k + 10 ≡ 10 * (k + 1)
+          next = omega arith
+
+          further : drop (10 * k) target ≡ drop (10 * k) target₀ → drop (10 * (k + 1)) target ≡ drop (10 * (k + 1)) target₀
+          further e = ap (λ n. drop n target) (sym next) ∙ sym (drop-drop 10 (10 * k) target) ∙ ap (drop 10) e ∙ drop-drop 10 (10 * k) target₀ ∙ ap (λ n. drop n target₀) next
+
           is-stored : target′ ≡ stored target (10 * k) (movedAt nx ny source ux uy k)
           is-stored =
-              m .stored
+              m .target-is
+              ∙ ap (λ a. unlessRefused a (movedStored target (10 * k) (particleAt source k) (movedAt nx ny source ux uy k)) target) is
               ∙ stored-is nx ny ux uy target (10 * k) (particleAt source k) (passed nx ny (particleAt source k) (movedAt nx ny source ux uy k) (first + k) (result tt) (sym (m .answer) ∙ ap toldGathered is) .0)
 
           more : map (gathered nx ny ux uy) (take (k + 1) (particlesOf source)) ≡ map (gathered nx ny ux uy) (take k (particlesOf source)) ++ movedAt nx ny source ux uy k ∷ []

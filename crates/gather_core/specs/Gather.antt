@@ -2,15 +2,15 @@
 -- Assumes nothing.
 use mathlib.Core.Path.{_≡_}
 use mathlib.Core.Bool.{Bool, not, _&&_, _||_}
-use mathlib.Core.List.{List, [], _∷_, map}
-use Prim.Native.Nat.{ℕ, suc, _*_, _≤_}
+use mathlib.Core.List.{List, [], _∷_, _++_, map}
+use Prim.Native.Nat.{ℕ, suc, _-_, _*_, _≤_}
 use lib.Dec.{ltb}
-use lib.ListN.{length}
+use lib.ListN.{length, take, drop}
 use lib.IntN.{ℤ, natAbs}
 use lib.Signed.{nonNeg}
 use Rattle.arith.specs.Rounding.{nearest, halvesAway}
 use Rattle.arith.specs.Sums.{Each}
-use Rattle.refusal.specs.Refused.{Answer, result, refusedBy, refuseIf}
+use Rattle.refusal.specs.Refused.{Answer, result, refused, refusedBy, refuseIf}
 use Rattle.spline.specs.Spline.{onAxis, axisWeight}
 use Rattle.spline.specs.Answers.{table}
 use Rattle.particle.specs.declared.Particle.{Particle}
@@ -85,10 +85,23 @@ pub record Gatherable (nx ny : ℕ) (source : List ℤ) (weights : List (List �
   pub y-velocities : NodeVelocities nx ny uy
   pub room : length target ≡ length source
 
--- where it is refused, the target is the caller's scratch and holds anything of its length
-pub record GathersFrom (first nx ny : ℕ) (source ux uy target : List ℤ) (r : Gathered) : Type 0 where
-  pub answer : toldGathered r ≡ answerFrom first nx ny ux uy (particlesOf source)
-  pub particles : toldGathered r ≡ result tt → target ≡ unpacked (map (gathered nx ny ux uy) (particlesOf source))
+-- how many of `count` records are moved, the first of which is record `first`: all of them, or those before the refused one
+abbrev pub movedBefore : Answer (Unit {0}) → ℕ → ℕ → ℕ
+movedBefore (result u) first count = count
+movedBefore (refused n k) first count = k - first
 
-abbrev pub Gathers : ℕ → ℕ → List ℤ → List ℤ → List ℤ → List ℤ → Gathered → Type 0
-Gathers nx ny source ux uy target r = GathersFrom 0 nx ny source ux uy target r
+-- the first n particles moved, and behind them what the target held
+abbrev pub movedInto : (Particle → Particle) → ℕ → List Particle → List ℤ → List ℤ
+movedInto move n ps target = unpacked (map move (take n ps)) ++ drop (10 * n) target
+
+unfoldable pub targetFrom : ℕ → ℕ → ℕ → List ℤ → List ℤ → List Particle → List ℤ → List ℤ
+targetFrom first nx ny ux uy ps target =
+    movedInto (gathered nx ny ux uy) (movedBefore (answerFrom first nx ny ux uy ps) first (length ps)) ps target
+
+-- the answer, and the target afterwards, for a target of any content
+pub record GathersFrom (first nx ny : ℕ) (source ux uy target target′ : List ℤ) (r : Gathered) : Type 0 where
+  pub answer : toldGathered r ≡ answerFrom first nx ny ux uy (particlesOf source)
+  pub target-is : target′ ≡ targetFrom first nx ny ux uy (particlesOf source) target
+
+abbrev pub Gathers : ℕ → ℕ → List ℤ → List ℤ → List ℤ → List ℤ → List ℤ → Gathered → Type 0
+Gathers nx ny source ux uy target target′ r = GathersFrom 0 nx ny source ux uy target target′ r

@@ -163,7 +163,7 @@ fn gain(x: i64, v: i64) -> i64
     x + v
 }
 
-// Moves the record with this index from (x, y), stores it at place k of `to` and checks it. `move_one` calls it.
+// Moves the record with this index from (x, y), and stores it at place k of `to` where it passes its checks. `move_one` calls it.
 fn settle(
     index: usize,
     k: usize,
@@ -182,12 +182,16 @@ fn settle(
 {
     let new_x = gain(x, a.v);
     let new_y = gain(y, b.v);
-    store_particle(to, 10 * k, identifier, mass, new_x, new_y, a, b);
-    check(index, nx, ny, new_x, new_y, a, b)
+    match check(index, nx, ny, new_x, new_y, a, b) {
+        Gathered::Refused(refusal) => Gathered::Refused(refusal),
+        Gathered::Done => {
+            store_particle(to, 10 * k, identifier, mass, new_x, new_y, a, b);
+            Gathered::Done
+        }
+    }
 }
 
-// Moves particle k of `from`, the first of which is record `first`, into `to`, which takes its numbers even where it is refused.
-// `gather_from` calls it.
+// Moves particle k of `from`, the first of which is record `first`, into `to`, unless it is refused. `gather_from` calls it.
 fn move_one(
     first: usize,
     from: &[i64],
@@ -221,8 +225,8 @@ fn move_one(
     )
 }
 
-// Moves every particle of `from`, the first of which is record `first`, into `to`. `gather_all` and the gather of crate
-// transfer call it.
+// Moves the particles of `from`, the first of which is record `first`, into `to`, all of them or those before a refused one.
+// `gather_all` and the gather of crate transfer call it.
 pub fn gather_from(
     first: usize,
     from: &[i64],
@@ -234,7 +238,7 @@ pub fn gather_from(
     to: &mut [i64],
 ) -> Gathered
     requires { ⌜ Gatherable nx ny (now from) (now table) (now ux) (now uy) (now to) × (first ≤ 4096) ⌝ }
-    ensures { λ r. ⌜ GathersFrom first nx ny (now (from .entry)) (now (ux .entry)) (now (uy .entry)) (now (to .exit)) r ⌝ }
+    ensures { λ r. ⌜ GathersFrom first nx ny (now (from .entry)) (now (ux .entry)) (now (uy .entry)) (now (to .entry)) (now (to .exit)) r ⌝ }
 {
     let count = from.len() / 10;
     let mut k = 0;
@@ -248,7 +252,7 @@ pub fn gather_from(
     Gathered::Done
 }
 
-// Moves every particle of `from` into `to`. The step calls it.
+// The same for a whole set. The step calls it.
 pub fn gather_all(
     from: &[i64],
     nx: usize,
@@ -259,7 +263,7 @@ pub fn gather_all(
     to: &mut [i64],
 ) -> Gathered
     requires { ⌜ Gatherable nx ny (now from) (now table) (now ux) (now uy) (now to) ⌝ }
-    ensures { λ r. ⌜ Gathers nx ny (now (from .entry)) (now (ux .entry)) (now (uy .entry)) (now (to .exit)) r ⌝ }
+    ensures { λ r. ⌜ Gathers nx ny (now (from .entry)) (now (ux .entry)) (now (uy .entry)) (now (to .entry)) (now (to .exit)) r ⌝ }
 {
     gather_from(0, from, nx, ny, table, ux, uy, to)
 }

@@ -21,6 +21,7 @@ use Rattle.gather_core.specs.declared.Gathered.{Gathered}
 use Rattle.gather_core.specs.declared.Gathered.the-variants.{Done, Refused}
 use Rattle.gather_core.specs.Gather.{toldGathered, gathered, moveChecks, NodeVelocities, Gatherable, Gathers}
 use Rattle.gather_core.proofs.Checks.{follow, checks-follow}
+use Rattle.gather_core.proofs.Kept.{all-moved}
 use Rattle.simulation.specs.declared.Settings.{Settings}
 use Rattle.simulation.specs.Step.{gravity, masses, momenta, updatedVelocities, move, stepped, stepOf}
 use Rattle.simulation.specs.Internal.{StepReady, StepLeaves, toldMoved}
@@ -73,7 +74,7 @@ module _ {s : Settings} {source : List ℤ} {weights : List (List ℕ)} {mass : 
             room = ready .room;
           }
 
-      pub step-leaves : {target′ : List ℤ} {r : Gathered} → Gathers (s .nx) (s .ny) source px₂ py₂ target′ r → StepLeaves s (particlesOf source) r mass₁ px₂ py₂ target′
+      pub step-leaves : {target′ : List ℤ} {r : Gathered} → Gathers (s .nx) (s .ny) source px₂ py₂ target target′ r → StepLeaves s (particlesOf source) r mass₁ px₂ py₂ target′
       unfolding stepped stepOf
       step-leaves {target′} {r} g =
           record {
@@ -82,7 +83,7 @@ module _ {s : Settings} {source : List ℤ} {weights : List (List ℕ)} {mass : 
                 followed r (stepped s (particlesOf source)) ∙ ap (λ a. follow a (result (stepped s (particlesOf source)))) (g .answer ∙ same (λ u v. moveChecks (s .nx) (s .ny) (gathered (s .nx) (s .ny) u v) 0 (particlesOf source) (result tt)))
                 ∙ sym (checks-follow (s .nx) (s .ny) (move s (particlesOf source)) 0 (particlesOf source) (result (stepped s (particlesOf source))));
             moved = λ e.
-                g .particles (ap toldGathered e)
+                all-moved gather-ready g (ap toldGathered e)
                 ∙ same (λ u v. unpacked (map (gathered (s .nx) (s .ny) u v) (particlesOf source)));
           }
         where

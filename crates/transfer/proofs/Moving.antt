@@ -28,7 +28,7 @@ use Rattle.gather_core.specs.declared.Gathered.{Gathered}
 use Rattle.gather_core.specs.declared.Gathered.the-variants.{Done, Refused}
 use Rattle.gather_core.specs.Gather.{gathered, moveChecks, answerFrom, toldGathered, Gatherable, GathersFrom}
 use Rattle.gather_core.proofs.Checks.{follow, checks-follow, checks-append}
-use Rattle.gather_core.proofs.Kept.{target-set}
+use Rattle.gather_core.proofs.Kept.{all-moved, target-set}
 use Rattle.transfer.specs.Internal.{MoveReady, PartRoom, MovedFrom}
 
 -- ---- some records, by the core
@@ -50,7 +50,7 @@ module _ {nx ny : ℕ} (records : List ℕ) {weights : List (List ℕ)} {ux uy s
         room = h ∙ sym (ap length e ∙ length-unpacked (particlesIn records) ∙ ap (λ n. 10 * n) (count-in records));
       }
 
-  module _ {first : ℕ} {target : List ℤ} {r : Gathered} (g : GathersFrom first nx ny source ux uy target r) where
+  module _ {first : ℕ} {held target : List ℤ} (room : length held ≡ 10 * recordCount records) {r : Gathered} (g : GathersFrom first nx ny source ux uy held target r) where
     told : toldGathered r ≡ answerFrom first nx ny ux uy (particlesIn records)
     told = g .answer ∙ ap (answerFrom first nx ny ux uy) source-is
 
@@ -59,11 +59,11 @@ module _ {nx ny : ℕ} (records : List ℕ) {weights : List (List ℕ)} {ux uy s
 
     module _ (h : r ≡ Done) where
       target-is : target ≡ unpacked (map (gathered nx ny ux uy) (particlesIn records))
-      target-is = g .particles (ap toldGathered h) ∙ ap (λ ps. unpacked (map (gathered nx ny ux uy) ps)) source-is
+      target-is = all-moved (gatherable room) g (ap toldGathered h) ∙ ap (λ ps. unpacked (map (gathered nx ny ux uy) ps)) source-is
 
       pub pack-ready : {bytes : ℕ} → bytes ≡ 14 * recordCount records → Packable target × (bytes ≡ 14 * (length target / 10))
       pack-ready m =
-          (record { nx = nx; ny = ny; set = target-set g (ap toldGathered h) source-set }, m ∙ ap (λ n. 14 * n) (count (recordCount records) (length target) numbers))
+          (record { nx = nx; ny = ny; set = target-set (gatherable room) g (ap toldGathered h) }, m ∙ ap (λ n. 14 * n) (count (recordCount records) (length target) numbers))
         where
           numbers : length target ≡ 10 * recordCount records
           numbers =

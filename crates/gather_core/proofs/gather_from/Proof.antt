@@ -15,7 +15,7 @@ use Rattle.gather_core.proofs.gather_from.Statement.{statement}
 use Rattle.gather_core.proofs.gather_from.Tie as tie
 
 abbrev Inv-loop : tie.InvT-loop
-Inv-loop first from nx ny table ux uy to₀ count k₀ to k = Walk first nx ny from ux uy k to
+Inv-loop first from nx ny table ux uy to₀ count k₀ to k = Walk first nx ny from ux uy to₀ k to
 
 abbrev μ-loop : tie.MeasureT-loop
 μ-loop first from nx ny table ux uy to₀ count k₀ to k = count - k

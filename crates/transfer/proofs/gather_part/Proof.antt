@@ -23,7 +23,7 @@ pack-set-requires c κs =
     let g = c .before .before .before .before .before in
     let u = g .before .before .before .before in
     let s = u .before .before .before .before in
-    pack-ready (s .args .records .now) (s .pre .0) (u .unpack-set .ensures) (g .gather-from .ensures) (c .before .before .enum-told .given .1) (s .pre .1 .bytes)
+    pack-ready (s .args .records .now) (s .pre .0) (u .unpack-set .ensures) (s .pre .1 .target-numbers) (g .gather-from .ensures) (c .before .before .enum-told .given .1) (s .pre .1 .bytes)
 
 same-length : tie.Need-same-length
 same-length c = search needs
@@ -36,7 +36,7 @@ returns c =
     let g = c .before .before .before .before in
     let u = g .before .before .before .before in
     let s = u .before .before .before .before in
-    refused-part (s .args .records .now) (s .pre .0) (u .unpack-set .ensures) (g .gather-from .ensures) (c .before .refusal .given .1)
+    refused-part (s .args .records .now) (s .pre .0) (u .unpack-set .ensures) (s .pre .1 .target-numbers) (g .gather-from .ensures) (c .before .refusal .given .1)
 
 same-length-3 : tie.Need-same-length-3
 same-length-3 c = search needs
@@ -52,7 +52,7 @@ returns-2 c =
     let g = c .before .before .before .before .before .before .before .before in
     let u = g .before .before .before .before in
     let s = u .before .before .before .before in
-    done-part (s .args .records .now) (s .pre .0) (u .unpack-set .ensures) (g .gather-from .ensures) (c .before .before .before .before .before .enum-told .given .1) (c .before .before .pack-set .ensures)
+    done-part (s .args .records .now) (s .pre .0) (u .unpack-set .ensures) (s .pre .1 .target-numbers) (g .gather-from .ensures) (c .before .before .before .before .before .enum-told .given .1) (c .before .before .pack-set .ensures)
 
 pub gather-part-spec : {M : Type 1} → statement M
 gather-part-spec =
