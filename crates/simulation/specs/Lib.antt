@@ -1,5 +1,4 @@
 pub mod Step
 pub mod Run
 pub mod Demand3
-pub mod Examples
 pub mod Internal

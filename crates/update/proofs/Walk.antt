@@ -2,7 +2,7 @@
 --     node-heavy, node-fast, node-passes   what a node's check answers, by its tests
 --     node-limits, limits-pass             a node passes where it keeps the limits, and only there
 --     each-end, each-turn                  a group at its end, and its next place
---     pass-each                            each place of a group that passes
+--     each-pass, pass-each                 a group passes where each place does, and only there
 --     nodes-limits, limits-nodes           as node-limits and limits-pass, for all nodes
 --     walk-start, walk-on, walk-ends       the walk from a node on
 -- Assumes nothing.
@@ -115,7 +115,7 @@ module _ (check : ℕ → Answer Unit) where
       next : n - k ≡ suc (n - (k + 1))
       next = omega arith
 
-  each-pass : (i n : ℕ) → ((k : ℕ) → k < n → check (i + k) ≡ done) → forEach check i n ≡ done
+  pub each-pass : (i n : ℕ) → ((k : ℕ) → k < n → check (i + k) ≡ done) → forEach check i n ≡ done
   each-pass i zero h = refl
   each-pass i (suc n) h =
       ap (λ a. andThen a (λ _. forEach check (suc i) n)) (ap check (sym (add-zero i)) ∙ h zero (omega arith))

@@ -1,0 +1,71 @@
+-- A run is a step and a run of one step fewer.
+--     run-entry     with at most 10,000 steps, the checks at entry are those of a step
+--     again         what a completed step leaves passes them
+-- Assumes nothing.
+use mathlib.Core.Path.{_≡_, refl, sym, ap, _∙_, subst}
+use mathlib.Core.List.{List}
+use Prim.Native.Nat.{ℕ, suc, _≤_, _<_}
+use native.Mathlib.Omega.{arith}
+use borrow.Author.Tests.{le-ltb}
+use Rattle.refusal.specs.Refused.{Answer, result, refused, refuseIf}
+use Rattle.particle.specs.declared.Particle.{Particle}
+use Rattle.apic.specs.Step.{alongX, alongY}
+use Rattle.apic.specs.Limits.{SetLimits}
+use Rattle.particles.specs.Set.{recordsOf}
+use Rattle.particles.proofs.Accepted.{limits-accepted}
+use Rattle.particles.proofs.Checks.{entered}
+use Rattle.update.proofs.Walk.{both-within}
+use Rattle.simulation.specs.declared.Settings.{Settings}
+use Rattle.simulation.specs.Step.{Grids, After, either, checkEntry, setIn, stepOf, nodesOf, stepEntry, stepFrom, stepAfter}
+use Rattle.simulation.specs.Run.{Completion, afterOne, runFrom, runEntry, runAfter}
+use Rattle.simulation.specs.Internal.{seen}
+use Rattle.simulation.proofs.Refusals.{grid-limits, velocity-limits}
+use Rattle.simulation.proofs.Steps.{step-result, completed, limits-after}
+use Rattle.composition.specs.Repeated.{thenRun, RunIsSteps}
+use Rattle.composition.proofs.Entry.{whole-grids, known}
+
+-- stopped before its first step
+abbrev stopped : ℕ → ℕ → List ℕ → Grids → After Completion
+stopped k p records grids = seen (record { completed = 0; stop = refused k p }) records grids
+
+module _ (s : Settings) (records : List ℕ) (grids : Grids) where
+  run-entry : (n : ℕ) → n ≤ 10000 → runEntry s n records grids ≡ stepEntry s records grids
+  unfolding runEntry stepEntry
+  run-entry n h = ap (λ b. checkEntry s records grids (refuseIf b 17 0 (setIn s records))) (le-ltb 10000 n h)
+
+  run-from : (n : ℕ) → n ≤ 10000 → {a : Answer (List Particle)} → stepEntry s records grids ≡ a → runAfter s n records grids ≡ either a (λ ps. runFrom s n records ps grids) (λ k p. stopped k p records grids)
+  unfolding runAfter
+  run-from n h e = ap (λ a. either a (λ ps. runFrom s n records ps grids) (λ k p. stopped k p records grids)) (run-entry n h ∙ e)
+
+  step-from : {a : Answer (List Particle)} → stepEntry s records grids ≡ a → stepAfter s records grids ≡ either a (λ ps. stepFrom s records ps) (λ k p. seen (refused k p) records grids)
+  unfolding stepAfter
+  step-from e = ap (λ a. either a (λ ps. stepFrom s records ps) (λ k p. seen (refused k p) records grids)) e
+
+module _ (s : Settings) (records : List ℕ) (grids : Grids) where
+  module _ {ps : List Particle} (e : stepEntry s records grids ≡ result ps) {qs : List Particle} (m : stepOf s ps ≡ result qs) where
+    after : SetLimits (s .nx) (s .ny) qs
+    after = subst (SetLimits (s .nx) (s .ny)) (step-result s ps m .1) (limits-after s ps (completed s ps (known s records grids e .limits) m))
+
+    again : stepEntry s (recordsOf qs) (nodesOf s ps) ≡ result qs
+    unfolding stepEntry
+    again =
+        let w = entered (s .nx) (s .ny) (recordsOf qs) (limits-accepted (s .nx) (s .ny) qs after) in
+        let k = known s records grids e in
+        let g = grid-limits s ps (k .limits) (k .light) in
+        let v = velocity-limits s ps (k .limits) (k .light) in
+        rw (w .size, w .whole, whole-grids (g .mass-length) (v alongX .count) (v alongY .count), both-within 4096 (s .gx) (s .gy) (g .gravity-x) (g .gravity-y))
+        (w .set)
+
+  -- by what the first step answers
+  module _ (n : ℕ) (few : n < 10000) where
+    tried : {ps : List Particle} → stepEntry s records grids ≡ result ps → (a : Answer (List Particle)) → stepOf s ps ≡ a → runFrom s (suc n) records ps grids ≡ thenRun s n (stepFrom s records ps)
+    unfolding runFrom stepFrom
+    tried {ps} e (result qs) m = rw m (ap afterOne (sym (run-from s (recordsOf qs) (nodesOf s ps) n (omega arith) (again e m))))
+    tried e (refused k p) m = rw m
+
+    by-entry : (a : Answer (List Particle)) → stepEntry s records grids ≡ a → runAfter s (suc n) records grids ≡ thenRun s n (stepAfter s records grids)
+    by-entry (result ps) e = run-from s records grids (suc n) few e ∙ tried e (stepOf s ps) refl ∙ sym (ap (thenRun s n) (step-from s records grids e))
+    by-entry (refused k p) e = run-from s records grids (suc n) few e ∙ sym (ap (thenRun s n) (step-from s records grids e))
+
+pub run-is-steps : RunIsSteps
+run-is-steps s n records grids few = by-entry s records grids n few (stepEntry s records grids) refl

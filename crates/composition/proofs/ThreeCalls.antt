@@ -1,0 +1,139 @@
+-- A step is scatter, update and gather.
+--     entry-is             what passes a step's checks at entry passes those of both transfers
+--     scatter-is           so scatter leaves the masses and momenta of a step
+--     update-is            update refuses none of their nodes, and leaves the velocities of a step
+--     gather-is            gather refuses none of those, and answers as the step
+-- Assumes nothing.
+use mathlib.Core.Path.{_≡_, sym, ap, ap₂, _∙_, subst}
+use mathlib.Core.Bool.{Bool, true, not, _&&_}
+use mathlib.Core.List.{List}
+use Prim.Native.Nat.{ℕ, _*_, _<_, _≤_}
+use native.Mathlib.Nat.{zero-add}
+use lib.Dec.{eqb}
+use lib.ListN.{length, getD}
+use lib.IntN.{ℤ, pos, natAbs}
+use borrow.Author.Tests.{eq-eqb}
+use Rattle.refusal.specs.Refused.{Answer, result, refused, refuseIf, andThen}
+use Rattle.particle.specs.declared.Particle.{Particle}
+use Rattle.apic.specs.Step.{Axis, alongX, alongY}
+use Rattle.particles.specs.Set.{recordsOf}
+use Rattle.particles.proofs.Checks.{entered}
+use Rattle.unpacked.proofs.Laws.{each-at}
+use Rattle.gather_core.specs.Gather.{gathered, NodeVelocities}
+use Rattle.update.specs.Checks.{done}
+use Rattle.update.specs.Update.{velocities, updateAnswer, updatedGrid}
+use Rattle.update.proofs.Walk.{both-within, each-pass}
+use Rattle.transfer.specs.Transfer.{entryAnswer, scatterAnswer, velocityCheck, velocityChecks, checkedSet, moveAnswer, gatherAnswer, Fills, Moves}
+use Rattle.transfer.proofs.Entry.{by-set}
+use Rattle.simulation.specs.declared.Settings.{Settings}
+use Rattle.simulation.specs.Step.{Grids, either, masses, momenta, updatedVelocities, stepped, stepOf, nodesOf, stepEntry, stepFrom, stepAfter}
+use Rattle.simulation.specs.Internal.{seen}
+use Rattle.simulation.proofs.Refusals as refusals
+use Rattle.simulation.proofs.Refusals.{velocity-limits}
+use Rattle.composition.specs.ThreeCalls.{ThreeCalls, IsStep, StepIsThreeCalls}
+use Rattle.composition.proofs.Entry.{Known, known}
+
+-- ---- node velocities within their limits pass gather's check, 12
+
+velocities-pass : {nx ny : ℕ} {ux uy : List ℤ} → NodeVelocities nx ny ux → NodeVelocities nx ny uy → velocityChecks (nx * ny) ux uy ≡ done
+unfolding velocityChecks
+velocities-pass {nx} {ny} {ux} {uy} a b =
+    each-pass (velocityCheck ux uy) 0 (nx * ny)
+    (λ k h.
+    ap (velocityCheck ux uy) (zero-add k)
+    ∙ ap (λ t. refuseIf (not t) 12 k done) (both-within 131072 (getD ux k (pos 0)) (getD uy k (pos 0)) (at a k h) (at b k h)))
+  where
+    at : {u : List ℤ} → NodeVelocities nx ny u → (k : ℕ) → k < nx * ny → natAbs (getD u k (pos 0)) ≤ 131072
+    at {u} v k h = each-at (λ z. natAbs z ≤ 131072) u k (pos 0) (v .each) (rw (v .count) h)
+
+-- ---- the three calls
+
+module _ (s : Settings) (records : List ℕ) (lent : Grids) {ps : List Particle} (e : stepEntry s records lent ≡ result ps) where
+  abbrev k : Known s records lent ps
+  k = known s records lent e
+
+  entry-is : (lengths : Bool) → lengths ≡ true → entryAnswer (s .nx) (s .ny) records lengths ≡ result ps
+  entry-is lengths h =
+      let w = entered (s .nx) (s .ny) records (k .set) in
+      by-set (s .nx) (s .ny) records lengths (w .size) (w .whole) h ∙ w .set
+
+  -- a step's velocities on an axis
+  abbrev u : Axis → List ℤ
+  u a = updatedVelocities s a ps
+
+  scatter-is : scatterAnswer (s .nx) (s .ny) records (length (lent .mass)) (length (lent .x)) (length (lent .y)) ≡ result ps
+  scatter-is = entry-is _ (k .grids)
+
+  update-is : updateAnswer (s .nx) (s .ny) (s .gx) (s .gy) (masses s ps) (momenta s alongX ps) (momenta s alongY ps) ≡ done
+  update-is = refusals.update-done s ps (k .limits) (k .light)
+
+  gather-is : gatherAnswer (s .nx) (s .ny) records (u alongX) (u alongY) ≡ stepOf s ps
+  unfolding checkedSet stepOf stepped
+  gather-is =
+      let v = velocity-limits s ps (k .limits) (k .light) in
+      ap (λ a. andThen (andThen a (λ qs. andThen (velocityChecks (s .nx * s .ny) (u alongX) (u alongY)) (λ _. result qs))) (λ qs. moveAnswer (s .nx) (s .ny) (u alongX) (u alongY) qs))
+      (entry-is (eqb (length (u alongX)) (s .nx * s .ny) && eqb (length (u alongY)) (s .nx * s .ny)) (ap₂ _&&_ (eq-eqb (length (u alongX)) (s .nx * s .ny) (v alongX .count)) (eq-eqb (length (u alongY)) (s .nx * s .ny) (v alongY .count))))
+      ∙ ap (λ a. andThen (andThen a (λ _. result ps)) (λ qs. moveAnswer (s .nx) (s .ny) (u alongX) (u alongY) qs)) (velocities-pass (v alongX) (v alongY))
+
+  from-entry : stepAfter s records lent ≡ stepFrom s records ps
+  unfolding stepAfter
+  from-entry = ap (λ a. either a (λ qs. stepFrom s records qs) (λ n k. seen (refused n k) records lent)) e
+
+  -- what is told and left of the moved particles
+  left : (grids : Grids) (a : Answer (List Particle)) {told : Answer Unit} {records′ : List ℕ} → Moves a records told records′ → either a (λ qs. seen done (recordsOf qs) grids) (λ n k. seen (refused n k) records grids) ≡ seen told records′ grids
+  left grids (result qs) m = ap₂ (λ t r. seen t r grids) (sym (m .answer)) (sym (m .records-are))
+  left grids (refused n k) m = ap₂ (λ t r. seen t r grids) (sym (m .answer)) (sym (m .records-are))
+
+  module _ (c : ThreeCalls s records lent) where
+    filled : Fills (s .nx) (s .ny) (result ps) (lent .mass) (lent .x) (lent .y) (c .scattered) (c .mass) (c .px) (c .py)
+    filled = rw scatter-is at (c .scatter)
+
+    mass-is : c .mass ≡ masses s ps
+    unfolding masses
+    mass-is = filled .mass-is
+
+    px-is : c .px ≡ momenta s alongX ps
+    unfolding momenta
+    px-is = filled .px-is
+
+    py-is : c .py ≡ momenta s alongY ps
+    unfolding momenta
+    py-is = filled .py-is
+
+    accepted : updateAnswer (s .nx) (s .ny) (s .gx) (s .gy) (c .mass) (c .px) (c .py) ≡ done
+    accepted = rw (mass-is, px-is, py-is) update-is
+
+    ux-is : c .ux ≡ u alongX
+    unfolding updatedVelocities
+    ux-is =
+        c .update .px-is
+        ∙ ap (λ a. updatedGrid a (velocities (s .nx * s .ny) (s .gx) (c .mass) (c .px)) (c .px)) accepted
+        ∙ ap₂ (velocities (s .nx * s .ny) (s .gx)) mass-is px-is
+
+    uy-is : c .uy ≡ u alongY
+    unfolding updatedVelocities
+    uy-is =
+        c .update .py-is
+        ∙ ap (λ a. updatedGrid a (velocities (s .nx * s .ny) (s .gy) (c .mass) (c .py)) (c .py)) accepted
+        ∙ ap₂ (velocities (s .nx * s .ny) (s .gy)) mass-is py-is
+
+    moves : Moves (stepOf s ps) records (c .gathered) (c .moved)
+    moves =
+        subst (λ a. Moves a records (c .gathered) (c .moved))
+        (ap₂ (gatherAnswer (s .nx) (s .ny) records) ux-is uy-is ∙ gather-is) (c .gather)
+
+    grids-are : nodesOf s ps ≡ record { mass = c .mass; x = c .ux; y = c .uy }
+    grids-are = sym (rw (mass-is, ux-is, uy-is))
+
+    leaves : stepAfter s records lent ≡ seen (c .gathered) (c .moved) (record { mass = c .mass; x = c .ux; y = c .uy })
+    unfolding stepFrom
+    leaves =
+        from-entry
+        ∙ left (nodesOf s ps) (stepOf s ps) moves
+        ∙ ap (seen (c .gathered) (c .moved)) grids-are
+
+    is-step : IsStep s records lent c
+    is-step = record { scatter-done = filled .answer; update-done = c .update .answer ∙ accepted; leaves = leaves }
+
+pub step-is-three-calls : StepIsThreeCalls
+step-is-three-calls s records lent ps e c = is-step s records lent e c

@@ -1,0 +1,2 @@
+pub mod ThreeCalls
+pub mod Repeated

@@ -1,0 +1,21 @@
+-- Document 01, "A run repeats the step": a run is a call of step, and where that is done a run of one step fewer on what it
+-- left. Assumes nothing.
+use mathlib.Core.Path.{_≡_}
+use mathlib.Core.List.{List}
+use Prim.Native.Nat.{ℕ, suc, _<_}
+use Rattle.refusal.specs.Refused.{Answer, refused}
+use Rattle.simulation.specs.declared.Settings.{Settings}
+use Rattle.simulation.specs.Step.{Grids, After, either, stepAfter}
+use Rattle.simulation.specs.Run.{Completion, afterOne, runAfter}
+
+-- n steps more after a call of step; where it was refused, none is completed and what it left stays
+abbrev pub thenRun : Settings → ℕ → After (Answer Unit) → After Completion
+thenRun s n a =
+    either (a .answer) (λ _. afterOne (runAfter s n (a .records) (a .grids)))
+    (λ k p. record { answer = record { completed = 0; stop = refused k p }; records = a .records; grids = a .grids })
+
+-- for every call of run that wants at least one step and at most 10,000
+abbrev pub RunIsSteps : Type 0
+RunIsSteps =
+    (s : Settings) (n : ℕ) (records : List ℕ) (grids : Grids) → n < 10000
+    → runAfter s (suc n) records grids ≡ thenRun s n (stepAfter s records grids)

@@ -1,0 +1,42 @@
+-- Document 01, "The step": a step is scatter, update and gather as these operations promise them, one call after the other.
+-- Assumes nothing.
+use mathlib.Core.Path.{_≡_}
+use mathlib.Core.List.{List}
+use Prim.Native.Nat.{ℕ}
+use lib.IntN.{ℤ}
+use Rattle.refusal.specs.Refused.{Answer, result}
+use Rattle.particle.specs.declared.Particle.{Particle}
+use Rattle.update.specs.Checks.{done}
+use Rattle.update.specs.Update.{UpdateIs}
+use Rattle.transfer.specs.Transfer.{ScatterIs, GatherIs}
+use Rattle.simulation.specs.declared.Settings.{Settings}
+use Rattle.simulation.specs.Step.{Grids, stepEntry, stepAfter}
+
+-- three calls, what each answers and what it leaves: the records are scattered into the lent grids, the momenta there become
+-- velocities, and the same records gather from those
+pub record ThreeCalls (s : Settings) (records : List ℕ) (lent : Grids) : Type 0 where
+  pub scattered : Answer Unit
+  pub mass : List ℕ
+  pub px : List ℤ
+  pub py : List ℤ
+  pub scatter : ScatterIs (s .nx) (s .ny) records (lent .mass) (lent .x) (lent .y) scattered mass px py
+  pub updated : Answer Unit
+  pub ux : List ℤ
+  pub uy : List ℤ
+  pub update : UpdateIs (s .nx) (s .ny) (s .gx) (s .gy) mass px py updated ux uy
+  pub gathered : Answer Unit
+  pub moved : List ℕ
+  pub gather : GatherIs (s .nx) (s .ny) records ux uy gathered moved
+
+-- scatter and update are not refused; a step answers what gather answers, and leaves gather's records, scatter's masses and
+-- update's velocities
+pub record IsStep (s : Settings) (records : List ℕ) (lent : Grids) (c : ThreeCalls s records lent) : Type 0 where
+  pub scatter-done : c .scattered ≡ done
+  pub update-done : c .updated ≡ done
+  pub leaves : stepAfter s records lent ≡ record { answer = c .gathered; records = c .moved; grids = record { mass = c .mass; x = c .ux; y = c .uy } }
+
+-- for every call of step that passes its checks at entry
+abbrev pub StepIsThreeCalls : Type 0
+StepIsThreeCalls =
+    (s : Settings) (records : List ℕ) (lent : Grids) (ps : List Particle) → stepEntry s records lent ≡ result ps
+    → (c : ThreeCalls s records lent) → IsStep s records lent c

@@ -1,0 +1,1 @@
+// The starred examples of document 01: specs/ and proofs/ hold them, and there is no function.
