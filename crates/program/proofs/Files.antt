@@ -1,0 +1,155 @@
+-- What the caller sees of a file that was accepted, and of a refused one.
+--     lent, given-back       the part behind the header as it is lent, and the file with other records there
+--     on-first               a run on the first nodes of grids
+--     text-by, prints        what the caller sees, by the file's answer
+--     file-sizes, file-long, report-ready
+--                            an accepted file can be run, and the records that the run leaves can be reported
+--     accepted-prints        then the caller sees what the definitions say
+-- Assumes nothing.
+use Prim.Native.Nat.{ℕ, _*_, _-_, _≤_}
+use native.Mathlib.Nat.{mul-le-mul, le-trans}
+use native.Mathlib.Omega.{arith}
+use mathlib.Core.Path.{_≡_, sym, ap, ap₂, subst, _∙_}
+use mathlib.Core.Bool.{true, false}
+use mathlib.Core.List.{List, _++_, append-nil}
+use lib.IntN.{ℤ, pos}
+use lib.ListN.{length, replicate, take, drop, length-append, length-drop, length-replicate, drop-of-length-le}
+use lib.Seq.{length-take-le, take-all, drop-at}
+use Rattle.refusal.specs.Refused.{Answer}
+use Rattle.apic.specs.Limits.{SizeLimits}
+use Rattle.particles.proofs.Checks.{size-limits, entered}
+use Rattle.simulation.specs.declared.Settings.{Settings}
+use Rattle.simulation.specs.declared.Ran.{Ran}
+use Rattle.simulation.specs.Step.{Grids, Sees, either, gridsOf}
+use Rattle.simulation.specs.Run.{Completion, runAfter, toldRan}
+use Rattle.bath_file.specs.declared.Header.{Header}
+use Rattle.bath_file.specs.Layout.{headerLength}
+use Rattle.bath_file.specs.File.{fileAnswer}
+use Rattle.bath_file.proofs.Answers.{header-held}
+use Rattle.bath_file.proofs.Records.{file-held}
+use Rattle.report.specs.Lines.{refusedLine}
+use Rattle.program.specs.Program.{settingsOf, nodesOf, recordsIn, runOf, zeroGrids, reportOf, programText, printed, textAfter, fileAfter, gridsAfter, firstNodes, withFirst}
+use Rattle.program.specs.Laws.{SameLengths}
+use Rattle.program.specs.Internal.{mostNodes, runFirst, Reportable, Begins, Accepted, Prints}
+use Rattle.program.proofs.Grids.{any-grids}
+use Rattle.program.proofs.Kept.{Held, kept-totals, run-kept}
+
+-- ---- the part behind the header
+
+-- as it is lent
+abbrev lent : List ℕ → List ℕ
+lent bytes = take (length bytes - headerLength) (drop headerLength bytes)
+
+-- the file with other records there, as the part comes back
+abbrev given-back : List ℕ → List ℕ → List ℕ
+given-back bytes records = take headerLength bytes ++ (records ++ drop (length bytes - headerLength) (drop headerLength bytes))
+
+lent-all : (bytes : List ℕ) → lent bytes ≡ recordsIn bytes
+lent-all bytes = take-all (length bytes - headerLength) (drop headerLength bytes) (omega (arith, length-drop headerLength bytes))
+
+module _ (bytes records : List ℕ) where
+  back-is : given-back bytes records ≡ take headerLength bytes ++ records
+  back-is =
+      let none = drop-of-length-le (drop headerLength bytes) {i = length bytes - headerLength} (omega (arith, length-drop headerLength bytes)) in
+      ap (λ r. take headerLength bytes ++ r) (ap (λ r. records ++ r) none ∙ append-nil records)
+
+  module _ (long : headerLength ≤ length bytes) where
+    pub back-long : headerLength ≤ length (given-back bytes records)
+    back-long =
+        let rest = records ++ drop (length bytes - headerLength) (drop headerLength bytes) in
+        omega (arith, length-append (take headerLength bytes) rest, length-take-le headerLength bytes long)
+
+    lent-back : lent (given-back bytes records) ≡ records
+    lent-back =
+        lent-all (given-back bytes records)
+        ∙ ap recordsIn back-is
+        ∙ drop-at (take headerLength bytes) records headerLength (length-take-le headerLength bytes long)
+
+-- ---- the run
+
+pub nodes-most : {nx ny : ℕ} → SizeLimits nx ny → nx * ny ≤ mostNodes
+nodes-most l = mul-le-mul (l .x-most) (l .y-most)
+
+-- a run on the first n nodes
+module _ (h : Header) {s : Settings} {n : ℕ} (settings : s ≡ settingsOf h) (size : n ≡ nodesOf h) (records mass : List ℕ) (x y : List ℤ) where
+  pub on-first : {c : Completion} {records′ mass′ : List ℕ} {x′ y′ : List ℤ} → Sees (runAfter s (h .steps) records (firstNodes n (gridsOf mass x y))) c records′ mass′ x′ y′ → Sees (runFirst h records (gridsOf mass x y)) c records′ (mass′ ++ drop n mass) (x′ ++ drop n x) (y′ ++ drop n y)
+  on-first r =
+      let same = ap₂ (λ s n. runAfter s (h .steps) records (firstNodes n (gridsOf mass x y))) settings size in
+      record {
+        answer = r .answer ∙ ap (λ a. a .answer) same;
+        records = r .records ∙ ap (λ a. a .records) same;
+        masses = ap₂ (λ l n. l ++ drop n mass) (r .masses ∙ ap (λ a. a .grids .mass) same) size;
+        x-velocities = ap₂ (λ l n. l ++ drop n x) (r .x-velocities ∙ ap (λ a. a .grids .x) same) size;
+        y-velocities = ap₂ (λ l n. l ++ drop n y) (r .y-velocities ∙ ap (λ a. a .grids .y) same) size;
+      }
+
+-- ---- what the caller sees, by the file's answer
+
+module _ (bytes : List ℕ) where
+  abbrev textBy : Answer Header → List ℕ
+  textBy f = either f (λ h. let ran = runOf h bytes (zeroGrids h) in reportOf (ran .answer) (ran .records)) refusedLine
+
+  abbrev fileBy : Answer Header → List ℕ
+  fileBy f = either f (λ h. take headerLength bytes ++ runOf h bytes (zeroGrids h) .records) (λ number place. bytes)
+
+  abbrev gridsBy : Grids → Answer Header → Grids
+  gridsBy grids f = either f (λ h. withFirst (nodesOf h) (runOf h bytes (firstNodes (nodesOf h) grids) .grids) grids) (λ number place. grids)
+
+  module _ {f : Answer Header} (e : fileAnswer bytes ≡ f) where
+    pub text-by : programText bytes ≡ textBy f
+    unfolding programText
+    text-by = ap textBy e
+
+    pub prints : {content text text′ file : List ℕ} {n : ℕ} {grids nodes : Grids} → Begins content text n text′ → content ≡ textBy f → file ≡ fileBy f → nodes ≡ gridsBy grids f → Prints bytes grids text (record { length = n; refused = either f (λ _. false) (λ number place. true) }) file nodes text′
+    unfolding printed textAfter fileAfter gridsAfter
+    prints {text = text} {grids = grids} b t l g =
+        let same = t ∙ sym text-by in
+        record {
+          answer = ap₂ (λ n f. record { length = n; refused = either f (λ _. false) (λ number place. true) }) (b .long ∙ ap length same) (sym e);
+          buffer = b .buffer ∙ ap (λ t. t ++ drop (length t) text) same;
+          file = l ∙ ap fileBy (sym e);
+          nodes = g ∙ ap (gridsBy grids) (sym e);
+        }
+
+-- ---- a file that was accepted
+
+module _ {h : Header} {bytes mass : List ℕ} {x y : List ℤ} {text : List ℕ} (a : Accepted h bytes mass x y text) where
+  pub file-sizes : SizeLimits (h .nx) (h .ny)
+  file-sizes = size-limits (h .nx) (h .ny) (header-held bytes (file-held bytes h (a .file) .header) .valid .size)
+
+  pub file-long : headerLength ≤ length bytes
+  file-long = header-held bytes (file-held bytes h (a .file) .header) .long
+
+  first-lengths : SameLengths (firstNodes (nodesOf h) (gridsOf mass x y)) (zeroGrids h)
+  first-lengths =
+      let most = nodes-most file-sizes in
+      record {
+        mass = length-take-le (nodesOf h) mass (le-trans most (a .grids .masses)) ∙ sym (length-replicate (nodesOf h) 0);
+        x = length-take-le (nodesOf h) x (le-trans most (a .grids .x-velocities)) ∙ sym (length-replicate (nodesOf h) (pos 0));
+        y = length-take-le (nodesOf h) y (le-trans most (a .grids .y-velocities)) ∙ sym (length-replicate (nodesOf h) (pos 0));
+      }
+
+  module _ (r : Ran) {records mass′ : List ℕ} {x′ y′ : List ℤ} (lends : Sees (runFirst h (lent bytes) (gridsOf mass x y)) (toldRan r) records mass′ x′ y′) where
+    ran : Sees (runFirst h (recordsIn bytes) (gridsOf mass x y)) (toldRan r) records mass′ x′ y′
+    ran = rw (lent-all bytes) at lends
+
+    left : Held (h .nx) (h .ny) records
+    left =
+        let before = file-held bytes h (a .file) in
+        let held : Held (h .nx) (h .ny) (recordsIn bytes) = record { particles = before .particles; set = before .set } in
+        rw (ran .records) (run-kept (settingsOf h) (h .steps) (recordsIn bytes) (firstNodes (nodesOf h) (gridsOf mass x y)) held)
+
+    pub report-ready : Reportable h (lent (given-back bytes records)) text
+    report-ready =
+        subst (λ l. Reportable h l text) (sym (lent-back bytes records file-long))
+        (record { totals = kept-totals left; whole = entered (h .nx) (h .ny) records (left .set) .whole; room = a .room })
+
+    module _ {n : ℕ} {text′ : List ℕ} (b : Begins (reportOf (toldRan r) (lent (given-back bytes records))) text n text′) where
+      pub accepted-prints : Prints bytes (gridsOf mass x y) text (record { length = n; refused = false }) (given-back bytes records) (gridsOf mass′ x′ y′) text′
+      accepted-prints =
+          let grids = gridsOf mass x y in
+          let law = any-grids (settingsOf h) (h .steps) (recordsIn bytes) (firstNodes (nodesOf h) grids) (zeroGrids h) first-lengths in
+          prints bytes (a .file) b
+          (ap₂ reportOf (ran .answer ∙ law .0) (lent-back bytes records file-long ∙ ran .records ∙ law .1))
+          (back-is bytes records ∙ ap (λ l. take headerLength bytes ++ l) (ran .records ∙ law .1))
+          (ap₂ (λ m u. gridsOf m u y′) (ran .masses) (ran .x-velocities) ∙ ap (gridsOf _ _) (ran .y-velocities))

@@ -1,0 +1,39 @@
+-- A run's answer and records do not depend on what its grids hold. Assumes nothing.
+use Prim.Native.Nat.{ℕ, zero, suc}
+use mathlib.Core.Path.{_≡_, refl, ap₂, _∙_, subst}
+use mathlib.Core.List.{List}
+use lib.ListN.{length}
+use Rattle.refusal.specs.Refused.{Answer, result, refused, refuseIf}
+use Rattle.particle.specs.declared.Particle.{Particle}
+use Rattle.simulation.specs.declared.Settings.{Settings}
+use Rattle.simulation.specs.Step.{Grids, After, either, gridsOf, checkEntry}
+use Rattle.simulation.specs.Run.{Completion, runFrom, runEntry, runAfter}
+use Rattle.program.specs.Laws.{SameLengths, AnyGrids}
+
+abbrev SameRun : After Completion → After Completion → Type 0
+SameRun a b = (a .answer ≡ b .answer) × (a .records ≡ b .records)
+
+same-steps : (s : Settings) (n : ℕ) (records : List ℕ) (ps : List Particle) (g h : Grids) → SameRun (runFrom s n records ps g) (runFrom s n records ps h)
+unfolding runFrom
+same-steps s zero records ps g h = (refl, refl)
+same-steps s (suc n) records ps g h = (refl, refl)
+
+module _ (s : Settings) (steps : ℕ) (records : List ℕ) where
+  same-entry : (g h : Grids) → SameLengths g h → runEntry s steps records g ≡ runEntry s steps records h
+  unfolding runEntry
+  same-entry g h same = rw (same .mass, same .x, same .y)
+
+  abbrev by : Grids → Answer (List Particle) → After Completion
+  by g a =
+      either a (λ ps. runFrom s steps records ps g)
+      (λ n k. record { answer = record { completed = 0; stop = refused n k }; records = records; grids = g })
+
+  same-after : (g h : Grids) (a : Answer (List Particle)) → SameRun (by g a) (by h a)
+  same-after g h (result ps) = same-steps s steps records ps g h
+  same-after g h (refused n k) = (refl, refl)
+
+pub any-grids : AnyGrids
+unfolding runAfter
+any-grids s steps records g h same =
+    subst (λ a. SameRun (by s steps records g (runEntry s steps records g)) (by s steps records h a))
+    (same-entry s steps records g h same) (same-after s steps records g h (runEntry s steps records g))

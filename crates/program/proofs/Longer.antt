@@ -1,0 +1,61 @@
+-- Of a longer input the first 57,354 bytes decide: as many are refused for their length, or for the header before it.
+-- Assumes nothing.
+use Prim.Native.Nat.{ℕ, _+_, _*_, _≤_, _<_}
+use native.Mathlib.Omega.{arith}
+use native.Mathlib.Decide.{decLe}
+use mathlib.Core.Path.{_≡_, refl, sym, ap, _∙_}
+use mathlib.Core.List.{List}
+use borrow.Author.Tests.{le-ltb}
+use lib.ListN.{length, take}
+use lib.Seq.{take-all, take-take, length-take-le}
+use Rattle.refusal.specs.Refused.{Answer, result, refused, andThen}
+use Rattle.simulation.specs.Step.{either}
+use Rattle.bath_file.specs.declared.Header.{Header}
+use Rattle.bath_file.specs.Layout.{headerLength}
+use Rattle.bath_file.specs.File.{headerAnswer, recordsAnswer, fileAnswer}
+use Rattle.bath_file.proofs.Answers.{header-held, wrong-length}
+use Rattle.report.specs.Lines.{refusedLine}
+use Rattle.program.specs.Program.{programText}
+use Rattle.program.specs.Laws.{roomForFile, LongerInput}
+use Rattle.program.proofs.Files.{text-by}
+
+-- two long inputs with the same first bytes have the same header
+same-header : (bytes bytes′ : List ℕ) → headerLength ≤ length bytes → headerLength ≤ length bytes′ → take headerLength bytes ≡ take headerLength bytes′ → headerAnswer bytes ≡ headerAnswer bytes′
+unfolding headerAnswer
+same-header bytes bytes′ l l′ e = rw (le-ltb (length bytes) headerLength l, le-ltb (length bytes′) headerLength l′, e)
+
+-- no header counts as many records as 57,354 bytes and more would hold
+too-long : (bytes : List ℕ) (h : Header) → roomForFile ≤ length bytes → headerAnswer bytes ≡ result h → recordsAnswer h bytes ≡ refused 1 0
+too-long bytes h l e = wrong-length h bytes (λ n. never (length bytes) (h .count) l (header-held bytes e .valid .count-to) n)
+  where
+    never : (n c : ℕ) → roomForFile ≤ n → c ≤ 4096 → n ≡ 9 + 14 * c → ⊥
+    never n c a b d = omega arith
+
+-- the refusal of a file that is too long is that of its header, or of its length
+file-too-long : (bytes : List ℕ) → roomForFile ≤ length bytes → fileAnswer bytes ≡ andThen (headerAnswer bytes) (λ h. refused 1 0)
+file-too-long bytes l = go (headerAnswer bytes) refl
+  where
+    go : (a : Answer Header) → headerAnswer bytes ≡ a → andThen a (λ h. recordsAnswer h bytes) ≡ andThen a (λ h. refused 1 0)
+    go (result h) e = too-long bytes h l e
+    go (refused n k) e = refl
+
+-- so the records do not count
+not-run : (a : Answer Header) (f g : Header → List ℕ) → either (andThen a (λ h. refused 1 0)) f refusedLine ≡ either (andThen a (λ h. refused 1 0)) g refusedLine
+not-run (result h) f g = refl
+not-run (refused n k) f g = refl
+
+longer : (bytes : List ℕ) → roomForFile ≤ length bytes → programText bytes ≡ programText (take roomForFile bytes)
+longer bytes l =
+    let first = take roomForFile bytes in
+    let m : roomForFile ≤ length first = omega (arith, length-take-le roomForFile bytes l) in
+    let h = same-header bytes first (omega arith) (omega arith) (sym (take-take headerLength roomForFile bytes (omega arith))) in
+    text-by bytes (file-too-long bytes l ∙ ap (λ a. andThen a (λ h. refused 1 0)) h)
+    ∙ not-run (headerAnswer first) _ _
+    ∙ sym (text-by first (file-too-long first m))
+
+pub longer-input : LongerInput
+longer-input bytes = go (decLe (length bytes) roomForFile)
+  where
+    go : Dec (length bytes ≤ roomForFile) → programText bytes ≡ programText (take roomForFile bytes)
+    go (yes h) = ap programText (sym (take-all roomForFile bytes h))
+    go (no h) = longer bytes (omega arith)

@@ -1,0 +1,26 @@
+-- `program::report_run` meets its contract. Assumes nothing.
+use mathlib.Core.Path.{ap, _∙_, subst}
+use Rattle.report.specs.Report.{textOf}
+use Rattle.program.specs.Internal.{Begins}
+use Rattle.program.proofs.Reports.{report-text}
+use borrow.Author.Needs.{needs}
+use Rattle.program.proofs.report_run.Statement.{statement}
+use Rattle.program.proofs.report_run.Tie as tie
+
+summary-requires : tie.Need-summary-requires
+summary-requires c κs = c .before .before .pre .totals
+
+put-requires : tie.Need-put-requires
+put-requires c κs = (c .before .before .before .before .pre .whole, c .before .before .before .before .pre .room)
+
+same-length : tie.Need-same-length
+same-length c = search needs
+
+returns : tie.Need-returns
+returns c =
+    let s = c .before .before .before .before .before .before .before in
+    subst (λ t. Begins t (s .args .text .now) (c .before .before .put .result) (c .before .before .put .last .1 .1 .0))
+    (ap (λ o. textOf o (s .args .records .now)) (c .before .before .before .before .summary .ensures) ∙ report-text (s .args .ran) (s .args .records .now)) (c .before .before .put .ensures)
+
+pub report-run-spec : {M : Type 1} → statement M
+report-run-spec = tie.close (tie.spec summary-requires put-requires same-length returns)

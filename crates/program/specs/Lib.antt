@@ -1,0 +1,4 @@
+pub mod Program
+pub mod Laws
+pub mod Examples
+pub mod Internal

@@ -1,0 +1,92 @@
+-- Document 01, "The program": from the bytes of a file to the whole text that is printed, and what the function that prints it
+-- leaves of the buffers that it is lent.
+--     programText   the text
+--     printed       the answer: the text's length, and whether the file was refused
+--     textAfter, fileAfter, gridsAfter
+--                   the text buffer, the file buffer and the grids afterwards
+-- Assumes nothing.
+use Prim.Native.Nat.{ℕ, _*_}
+use mathlib.Core.Path.{_≡_}
+use mathlib.Core.Bool.{Bool, true, false}
+use mathlib.Core.List.{List, _++_}
+use lib.IntN.{ℤ, pos}
+use lib.ListN.{length, replicate, take, drop}
+use Rattle.particles.specs.Set.{particlesIn, totalsOf}
+use Rattle.simulation.specs.declared.Settings.{Settings}
+use Rattle.simulation.specs.Step.{Grids, After, either, gridsOf}
+use Rattle.simulation.specs.Run.{Completion, runAfter}
+use Rattle.bath_file.specs.declared.Header.{Header}
+use Rattle.bath_file.specs.Layout.{headerLength}
+use Rattle.bath_file.specs.File.{fileAnswer}
+use Rattle.report.specs.Lines.{refusedLine}
+use Rattle.report.specs.Report.{runText}
+use Rattle.program.specs.declared.Printed.{Printed}
+
+-- ---- "It reads a bath file from standard input, runs it and prints"
+
+abbrev pub settingsOf : Header → Settings
+settingsOf h = record { nx = h .nx; ny = h .ny; gx = h .gx; gy = h .gy }
+
+abbrev pub nodesOf : Header → ℕ
+nodesOf h = h .nx * h .ny
+
+-- the records lie behind the header
+abbrev pub recordsIn : List ℕ → List ℕ
+recordsIn bytes = drop headerLength bytes
+
+-- the run that a file asks for
+abbrev pub runOf : Header → List ℕ → Grids → After Completion
+runOf h bytes grids = runAfter (settingsOf h) (h .steps) (recordsIn bytes) grids
+
+-- grids of its size with every node zero
+abbrev pub zeroGrids : Header → Grids
+zeroGrids h = gridsOf (replicate (nodesOf h) 0) (replicate (nodesOf h) (pos 0)) (replicate (nodesOf h) (pos 0))
+
+-- "completed steps, refusal (0 for none) and place; then the totals; then each record"
+unfoldable pub reportOf : Completion → List ℕ → List ℕ
+reportOf c records =
+    let totals = totalsOf (particlesIn records) in
+    either (c .stop)
+    (λ _. runText (c .completed) 0 0 totals records)
+    (λ number place. runText (c .completed) number place totals records)
+
+-- "A refused file prints only `refused R at P`. Otherwise:"
+unfoldable pub programText : List ℕ → List ℕ
+programText bytes =
+    either (fileAnswer bytes)
+    (λ h. let ran = runOf h bytes (zeroGrids h) in reportOf (ran .answer) (ran .records))
+    refusedLine
+
+-- ---- what the caller of the function sees
+
+abbrev pub isRefused : List ℕ → Bool
+isRefused bytes = either (fileAnswer bytes) (λ _. false) (λ number place. true)
+
+unfoldable pub printed : List ℕ → Printed
+printed bytes = record { length = length (programText bytes); refused = isRefused bytes }
+
+-- the text, and behind it what was there
+unfoldable pub textAfter : List ℕ → List ℕ → List ℕ
+textAfter bytes text = programText bytes ++ drop (length (programText bytes)) text
+
+-- the same header, and the records that the run leaves; a refused file is as it was
+unfoldable pub fileAfter : List ℕ → List ℕ
+fileAfter bytes =
+    either (fileAnswer bytes)
+    (λ h. take headerLength bytes ++ runOf h bytes (zeroGrids h) .records)
+    (λ number place. bytes)
+
+-- the first nodes of grids that have room for any run, and such grids with others for their first nodes
+abbrev pub firstNodes : ℕ → Grids → Grids
+firstNodes n grids = gridsOf (take n (grids .mass)) (take n (grids .x)) (take n (grids .y))
+
+abbrev pub withFirst : ℕ → Grids → Grids → Grids
+withFirst n first grids =
+    gridsOf (first .mass ++ drop n (grids .mass)) (first .x ++ drop n (grids .x)) (first .y ++ drop n (grids .y))
+
+-- the first Nx·Ny nodes are what the run leaves, and the others as they were, as are all of them where the file is refused
+unfoldable pub gridsAfter : List ℕ → Grids → Grids
+gridsAfter bytes grids =
+    either (fileAnswer bytes)
+    (λ h. withFirst (nodesOf h) (runOf h bytes (firstNodes (nodesOf h) grids) .grids) grids)
+    (λ number place. grids)
