@@ -1,4 +1,0 @@
-pub mod Coding
-pub mod Places
-pub mod Accepted
-pub mod Running

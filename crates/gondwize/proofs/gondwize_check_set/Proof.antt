@@ -1,0 +1,41 @@
+-- `gondwize_check_set` meets its contract. The value is the number of records. Assumes nothing.
+use borrow.Author.Needs.{needs}
+use mathlib.Core.Path.{refl, ap}
+use denote.Ref.{now}
+use Rattle.particles.specs.Set.{toldChecked}
+use Rattle.gondwize.proofs.Coding.{gave, kept, place-of}
+use Rattle.gondwize.proofs.Places as places
+use Rattle.gondwize.proofs.gondwize_check_set.Statement.{statement}
+use Rattle.gondwize.proofs.gondwize_check_set.Tie as tie
+
+check-set-requires : tie.Need-check-set-requires
+check-set-requires c κs = search needs
+
+enum-known-refusal : tie.Need-enum-known-refusal
+enum-known-refusal c = search needs
+
+code-requires : tie.Need-code-requires
+code-requires c κs =
+    place-of (c .before .refusal .given .0 .0) (c .before .before .before .check-set .ensures) (ap toldChecked (c .before .refusal .given .1))
+    (places.counted (c .before .before .before .before .before .args .nx) (c .before .before .before .before .before .args .ny) (now (c .before .before .before .before .before .args .records)))
+
+enum-known-found : tie.Need-enum-known-found
+enum-known-found c = search needs
+
+returns : tie.Need-returns
+returns c =
+    kept (c .before .before .refusal .given .0 .0) (c .before .before .before .before .check-set .ensures) (ap toldChecked (c .before .before .refusal .given .1)) (c .code .ensures)
+
+returns-2 : tie.Need-returns-2
+returns-2 c = gave (c .before .before .before .check-set .ensures) (ap toldChecked (c .before .found .given .1)) refl
+
+pub gondwize-check-set-spec : {M : Type 1} → statement M
+gondwize-check-set-spec =
+    tie.close
+    (tie.spec
+    check-set-requires
+    enum-known-refusal
+    code-requires
+    enum-known-found
+    returns
+    returns-2)

@@ -1,0 +1,47 @@
+-- `gondwize_read_file` meets its contract. The values are the header's, which are small. Assumes nothing.
+use borrow.Author.Needs.{needs}
+use mathlib.Core.Path.{ap}
+use denote.Ref.{now}
+use Rattle.bath_file.specs.File.{toldRead}
+use Rattle.gondwize.proofs.Accepted.{narrow}
+use Rattle.gondwize.proofs.Coding.{gave, kept, place-of}
+use Rattle.gondwize.proofs.Places as places
+use Rattle.gondwize.proofs.gondwize_read_file.Statement.{statement}
+use Rattle.gondwize.proofs.gondwize_read_file.Tie as tie
+
+read-file-requires : tie.Need-read-file-requires
+read-file-requires c κs = search needs
+
+enum-known-refusal : tie.Need-enum-known-refusal
+enum-known-refusal c = search needs
+
+code-requires : tie.Need-code-requires
+code-requires c κs =
+    place-of (c .before .refusal .given .0 .0) (c .before .before .before .read-file .ensures) (ap toldRead (c .before .refusal .given .1))
+    (places.file-read (now (c .before .before .before .before .before .args .bytes)))
+
+enum-known-h : tie.Need-enum-known-h
+enum-known-h c = search needs
+
+of-header-requires : tie.Need-of-header-requires
+of-header-requires c κs =
+    narrow (now (c .before .before .before .before .before .args .bytes)) (c .before .before .before .read-file .ensures) (ap toldRead (c .before .h .given .1))
+
+returns : tie.Need-returns
+returns c =
+    kept (c .before .before .refusal .given .0 .0) (c .before .before .before .before .read-file .ensures) (ap toldRead (c .before .before .refusal .given .1)) (c .code .ensures)
+
+returns-2 : tie.Need-returns-2
+returns-2 c = gave (c .before .before .before .before .read-file .ensures) (ap toldRead (c .before .before .h .given .1)) (c .of-header .ensures)
+
+pub gondwize-read-file-spec : {M : Type 1} → statement M
+gondwize-read-file-spec =
+    tie.close
+    (tie.spec
+    read-file-requires
+    enum-known-refusal
+    code-requires
+    enum-known-h
+    of-header-requires
+    returns
+    returns-2)

@@ -1,0 +1,91 @@
+-- `gondwize_step` meets its contract, which is that of the operation. Assumes nothing.
+use borrow.Author.Needs.{needs}
+use mathlib.Core.Path.{ap}
+use denote.Ref.{now}
+use mathlib.Core.List.{List}
+use Prim.Native.Nat.{ℕ}
+use lib.IntN.{ℤ}
+use mir.Syntax.{w64}
+use mir.Val.{toZ, ofZ}
+use mir.Facts.{toZ-ofZ}
+use Rattle.refusal.specs.Refused.{Answer}
+use Rattle.simulation.specs.Step.{Sees, gridsOf, stepAfter, toldStepped}
+use Rattle.gondwize.specs.Runs.{settingsWith}
+use Rattle.gondwize.proofs.Coding.{place-of, tells-done, tells-refused}
+use Rattle.gondwize.proofs.Places as places
+use Rattle.gondwize.proofs.gondwize_step.Statement.{statement}
+use Rattle.gondwize.proofs.gondwize_step.Tie as tie
+
+-- gravity comes through unchanged
+through : (s : tie.Start) {told : Answer Unit} {records mass : List ℕ} {px py : List ℤ} → Sees (stepAfter (settingsWith (s .args .nx) (s .args .ny) (toZ w64 (ofZ w64 (s .args .gx))) (toZ w64 (ofZ w64 (s .args .gy)))) (now (s .args .records)) (gridsOf (now (s .args .mass)) (now (s .args .px)) (now (s .args .py)))) told records mass px py → Sees (stepAfter (settingsWith (s .args .nx) (s .args .ny) (s .args .gx) (s .args .gy)) (now (s .args .records)) (gridsOf (now (s .args .mass)) (now (s .args .px)) (now (s .args .py)))) told records mass px py
+through s u = rw (toZ-ofZ (s .fits .gx), toZ-ofZ (s .fits .gy)) at u
+
+step-requires : tie.Need-step-requires
+step-requires c κs = search needs
+
+enum-known-refusal : tie.Need-enum-known-refusal
+enum-known-refusal c = search needs
+
+code-requires : tie.Need-code-requires
+code-requires c κs =
+    let s = c .before .before .before .before .before .before .before .before .before .before .before .before .before .before .before .before in
+    let u = through s (c .before .before .before .before .before .before .before .before .before .step .ensures) in
+    place-of (c .before .refusal .given .0 .0) (u .answer) (ap toldStepped (c .before .refusal .given .1))
+    (places.step (settingsWith (s .args .nx) (s .args .ny) (s .args .gx) (s .args .gy)) (now (s .args .records)) (gridsOf (now (s .args .mass)) (now (s .args .px)) (now (s .args .py))))
+
+enum-told : tie.Need-enum-told
+enum-told c = search needs
+
+same-length : tie.Need-same-length
+same-length c = search needs
+
+same-length-2 : tie.Need-same-length-2
+same-length-2 c = search needs
+
+same-length-3 : tie.Need-same-length-3
+same-length-3 c = search needs
+
+same-length-4 : tie.Need-same-length-4
+same-length-4 c = search needs
+
+returns : tie.Need-returns
+returns c =
+    let s = c .before .before .before .before .before .before .before .before .before .before .before .before .before .before .before .before .before in
+    let u = through s (c .before .before .before .before .before .before .before .before .before .before .step .ensures) in
+    tells-refused u (c .before .before .refusal .given .0 .0) (ap toldStepped (c .before .before .refusal .given .1)) (c .code .ensures)
+
+same-length-5 : tie.Need-same-length-5
+same-length-5 c = search needs
+
+same-length-6 : tie.Need-same-length-6
+same-length-6 c = search needs
+
+same-length-7 : tie.Need-same-length-7
+same-length-7 c = search needs
+
+same-length-8 : tie.Need-same-length-8
+same-length-8 c = search needs
+
+returns-2 : tie.Need-returns-2
+returns-2 c =
+    let s = c .before .before .before .before .before .before .before .before .before .before .before .before .before .before .before in
+    tells-done (through s (c .before .before .before .before .before .before .before .before .step .ensures)) (ap toldStepped (c .enum-told .given .1))
+
+pub gondwize-step-spec : {M : Type 1} → statement M
+gondwize-step-spec =
+    tie.close
+    (tie.spec
+    step-requires
+    enum-known-refusal
+    code-requires
+    enum-told
+    same-length
+    same-length-2
+    same-length-3
+    same-length-4
+    returns
+    same-length-5
+    same-length-6
+    same-length-7
+    same-length-8
+    returns-2)

@@ -1,0 +1,48 @@
+-- `gondwize_totals` meets its contract. The values are the five sums, of which the mass is small. Assumes nothing.
+use borrow.Author.Needs.{needs}
+use mathlib.Core.Path.{ap}
+use denote.Ref.{now}
+use Rattle.particles.specs.Set.{toldTotalled}
+use Rattle.gondwize.proofs.Accepted.{light}
+use Rattle.gondwize.proofs.Coding.{gave, kept, place-of}
+use Rattle.gondwize.proofs.Places as places
+use Rattle.gondwize.proofs.gondwize_totals.Statement.{statement}
+use Rattle.gondwize.proofs.gondwize_totals.Tie as tie
+
+set-totals-requires : tie.Need-set-totals-requires
+set-totals-requires c κs = search needs
+
+enum-known-refusal : tie.Need-enum-known-refusal
+enum-known-refusal c = search needs
+
+code-requires : tie.Need-code-requires
+code-requires c κs =
+    place-of (c .before .refusal .given .0 .0) (c .before .before .before .set-totals .ensures) (ap toldTotalled (c .before .refusal .given .1))
+    (places.totalled (c .before .before .before .before .before .args .nx) (c .before .before .before .before .before .args .ny) (now (c .before .before .before .before .before .args .records)))
+
+enum-known-t : tie.Need-enum-known-t
+enum-known-t c = search needs
+
+of-totals-requires : tie.Need-of-totals-requires
+of-totals-requires c κs =
+    let s = c .before .before .before .before .before in
+    light (s .args .nx) (s .args .ny) (now (s .args .records)) (c .before .before .before .set-totals .ensures) (ap toldTotalled (c .before .t .given .1))
+
+returns : tie.Need-returns
+returns c =
+    kept (c .before .before .refusal .given .0 .0) (c .before .before .before .before .set-totals .ensures) (ap toldTotalled (c .before .before .refusal .given .1)) (c .code .ensures)
+
+returns-2 : tie.Need-returns-2
+returns-2 c = gave (c .before .before .before .before .set-totals .ensures) (ap toldTotalled (c .before .before .t .given .1)) (c .of-totals .ensures)
+
+pub gondwize-totals-spec : {M : Type 1} → statement M
+gondwize-totals-spec =
+    tie.close
+    (tie.spec
+    set-totals-requires
+    enum-known-refusal
+    code-requires
+    enum-known-t
+    of-totals-requires
+    returns
+    returns-2)

@@ -1,0 +1,255 @@
+// The operations for programs in other languages: numbers and slices in, one number out, and values through the caller's arrays.
+// include/gondwize.h declares them for C.
+mod answer;
+
+use bath_file::FileRead;
+use bath_file::HeaderWritten;
+use particle::Read;
+use particle::Written;
+use particles::Checked;
+use particles::Totalled;
+use simulation::Ran;
+use simulation::Settings;
+use simulation::Stepped;
+use spline::Weighed;
+use transfer::Moved;
+use transfer::Scattered;
+use update::Updated;
+ghost use mathlib.Core.Path.{_≡_};
+ghost use Rattle.particle.specs.Record.{readAnswer, writeAnswer, written};
+ghost use Rattle.unpacked.specs.Unpacked.{numbers};
+ghost use Rattle.particles.specs.Set.{checkAnswer, totalsAnswer};
+ghost use Rattle.spline.specs.Answers.{weightsAnswer};
+ghost use Rattle.transfer.specs.Transfer.{ScatterIs, GatherIs};
+ghost use Rattle.update.specs.Update.{UpdateIs};
+ghost use Rattle.simulation.specs.Step.{Sees, gridsOf, stepAfter};
+ghost use Rattle.bath_file.specs.File.{fileAnswer};
+ghost use Rattle.bath_file.specs.File as file;
+ghost use Rattle.wide.specs.Values.{three, sums, settings, particleWith, headerWith};
+ghost use Rattle.gondwize.specs.Coded.{coded, alone, Gives, Tells};
+ghost use Rattle.gondwize.specs.Runs.{RunTells, settingsWith};
+
+// Read a record: ten values.
+#[no_mangle]
+pub extern "C" fn gondwize_read_record(bytes: &[u8], values: &mut [i64; 10]) -> u64
+    ensures { λ r. ⌜ Gives (readAnswer 0 (now (bytes .entry))) numbers (now (values .entry)) r (now (values .exit)) ⌝ }
+{
+    match particle::read_record(bytes) {
+        Read::Refused(refusal) => answer::code(refusal),
+        Read::Found(p) => {
+            *values = packing::numbers_of(p);
+            0
+        }
+    }
+}
+
+// Write a record.
+#[no_mangle]
+pub extern "C" fn gondwize_write_record(
+    identifier: u16,
+    mass: u64,
+    x: u64,
+    y: u64,
+    vx: i64,
+    vy: i64,
+    bxx: i64,
+    bxy: i64,
+    byx: i64,
+    byy: i64,
+    bytes: &mut [u8],
+) -> u64
+    ensures answer { λ r. ⌜ r ≡ coded (writeAnswer (particleWith identifier mass x y vx vy bxx bxy byx byy) (now (bytes .entry))) ⌝ }
+    ensures buffer { λ _. ⌜ now (bytes .exit) ≡ written (particleWith identifier mass x y vx vy bxx bxy byx byy) (now (bytes .entry)) ⌝ }
+{
+    let p = wide::particle(identifier, mass, x, y, vx, vy, bxx, bxy, byx, byy);
+    match particle::write_record(p, bytes) {
+        Written::Refused(refusal) => answer::code(refusal),
+        Written::Done => 0,
+    }
+}
+
+// Check a set: one value, the number of records.
+#[no_mangle]
+pub extern "C" fn gondwize_check_set(nx: usize, ny: usize, records: &[u8], count: &mut u64) -> u64
+    ensures { λ r. ⌜ Gives (checkAnswer nx ny (now (records .entry))) alone (now (count .entry)) r (now (count .exit)) ⌝ }
+{
+    match particles::check_set(nx, ny, records) {
+        Checked::Refused(refusal) => answer::code(refusal),
+        Checked::Records(found) => {
+            *count = found as u64;
+            0
+        }
+    }
+}
+
+// Totals: five values.
+#[no_mangle]
+pub extern "C" fn gondwize_totals(
+    nx: usize,
+    ny: usize,
+    records: &[u8],
+    values: &mut [i64; 5],
+) -> u64
+    ensures { λ r. ⌜ Gives (totalsAnswer nx ny (now (records .entry))) sums (now (values .entry)) r (now (values .exit)) ⌝ }
+{
+    match particles::set_totals(nx, ny, records) {
+        Totalled::Refused(refusal) => answer::code(refusal),
+        Totalled::Sums(t) => {
+            *values = wide::of_totals(t);
+            0
+        }
+    }
+}
+
+// Weights: three values.
+#[no_mangle]
+pub extern "C" fn gondwize_weights(q: i64, values: &mut [i64; 3]) -> u64
+    ensures { λ r. ⌜ Gives (weightsAnswer q) three (now (values .entry)) r (now (values .exit)) ⌝ }
+{
+    match spline::weights(q) {
+        Weighed::Refused(refusal) => answer::code(refusal),
+        Weighed::Weights(w) => {
+            *values = wide::of_weights(w);
+            0
+        }
+    }
+}
+
+// Scatter.
+#[no_mangle]
+pub extern "C" fn gondwize_scatter(
+    nx: usize,
+    ny: usize,
+    records: &[u8],
+    mass: &mut [u64],
+    px: &mut [i64],
+    py: &mut [i64],
+) -> u64
+    ensures { λ r. ⌜ Tells (λ told. ScatterIs nx ny (now (records .entry)) (now (mass .entry)) (now (px .entry)) (now (py .entry)) told (now (mass .exit)) (now (px .exit)) (now (py .exit))) r ⌝ }
+{
+    match transfer::scatter(nx, ny, records, mass, px, py) {
+        Scattered::Refused(refusal) => answer::code(refusal),
+        Scattered::Done => 0,
+    }
+}
+
+// Update.
+#[no_mangle]
+pub extern "C" fn gondwize_update(
+    nx: usize,
+    ny: usize,
+    gx: i64,
+    gy: i64,
+    mass: &[u64],
+    px: &mut [i64],
+    py: &mut [i64],
+) -> u64
+    ensures { λ r. ⌜ Tells (λ told. UpdateIs nx ny gx gy (now (mass .entry)) (now (px .entry)) (now (py .entry)) told (now (px .exit)) (now (py .exit))) r ⌝ }
+{
+    match update::update(nx, ny, gx, gy, mass, px, py) {
+        Updated::Refused(refusal) => answer::code(refusal),
+        Updated::Done => 0,
+    }
+}
+
+// Gather.
+#[no_mangle]
+pub extern "C" fn gondwize_gather(
+    nx: usize,
+    ny: usize,
+    records: &mut [u8],
+    ux: &[i64],
+    uy: &[i64],
+) -> u64
+    ensures { λ r. ⌜ Tells (λ told. GatherIs nx ny (now (records .entry)) (now (ux .entry)) (now (uy .entry)) told (now (records .exit))) r ⌝ }
+{
+    match transfer::gather(nx, ny, records, ux, uy) {
+        Moved::Refused(refusal) => answer::code(refusal),
+        Moved::Done => 0,
+    }
+}
+
+// Step.
+#[no_mangle]
+pub extern "C" fn gondwize_step(
+    nx: usize,
+    ny: usize,
+    gx: i64,
+    gy: i64,
+    records: &mut [u8],
+    mass: &mut [u64],
+    px: &mut [i64],
+    py: &mut [i64],
+) -> u64
+    ensures { λ r. ⌜ Tells (λ told. Sees (stepAfter (settingsWith nx ny gx gy) (now (records .entry)) (gridsOf (now (mass .entry)) (now (px .entry)) (now (py .entry)))) told (now (records .exit)) (now (mass .exit)) (now (px .exit)) (now (py .exit))) r ⌝ }
+{
+    let settings = Settings { nx, ny, gx, gy };
+    match simulation::step(settings, records, mass, px, py) {
+        Stepped::Refused(refusal) => answer::code(refusal),
+        Stepped::Done => 0,
+    }
+}
+
+// Run: one value, the number of completed steps.
+#[no_mangle]
+pub extern "C" fn gondwize_run(
+    nx: usize,
+    ny: usize,
+    gx: i64,
+    gy: i64,
+    steps: usize,
+    records: &mut [u8],
+    mass: &mut [u64],
+    px: &mut [i64],
+    py: &mut [i64],
+    completed: &mut u64,
+) -> u64
+    ensures { λ r. ⌜ RunTells (settingsWith nx ny gx gy) steps (now (records .entry)) (gridsOf (now (mass .entry)) (now (px .entry)) (now (py .entry))) r (now (records .exit)) (now (mass .exit)) (now (px .exit)) (now (py .exit)) (now (completed .exit)) ⌝ }
+{
+    let settings = Settings { nx, ny, gx, gy };
+    match simulation::run(settings, steps, records, mass, px, py) {
+        Ran::Stopped(count, refusal) => {
+            *completed = count as u64;
+            answer::code(refusal)
+        }
+        Ran::Done(count) => {
+            *completed = count as u64;
+            0
+        }
+    }
+}
+
+// Read a file: six values.
+#[no_mangle]
+pub extern "C" fn gondwize_read_file(bytes: &[u8], values: &mut [i64; 6]) -> u64
+    ensures { λ r. ⌜ Gives (fileAnswer (now (bytes .entry))) settings (now (values .entry)) r (now (values .exit)) ⌝ }
+{
+    match bath_file::read_file(bytes) {
+        FileRead::Refused(refusal) => answer::code(refusal),
+        FileRead::Accepted(h) => {
+            *values = wide::of_header(h);
+            0
+        }
+    }
+}
+
+// Write a header.
+#[no_mangle]
+pub extern "C" fn gondwize_write_header(
+    nx: usize,
+    ny: usize,
+    gx: i64,
+    gy: i64,
+    count: usize,
+    steps: usize,
+    bytes: &mut [u8],
+) -> u64
+    ensures answer { λ r. ⌜ r ≡ coded (file.writeAnswer (headerWith nx ny gx gy count steps) (now (bytes .entry))) ⌝ }
+    ensures buffer { λ _. ⌜ now (bytes .exit) ≡ file.written (headerWith nx ny gx gy count steps) (now (bytes .entry)) ⌝ }
+{
+    let h = wide::header(nx, ny, gx, gy, count, steps);
+    match bath_file::write_header(h, bytes) {
+        HeaderWritten::Refused(refusal) => answer::code(refusal),
+        HeaderWritten::Done => 0,
+    }
+}

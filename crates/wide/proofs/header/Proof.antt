@@ -1,0 +1,28 @@
+-- `wide::header` meets its contract: the header is that of the numbers cut to 16 bits. Assumes nothing.
+use borrow.Author.Needs.{needs}
+use mathlib.Core.Path.{sym, subst}
+use Rattle.wide.specs.Values.{headerWith}
+use Rattle.wide.specs.Internal.{SameHeader}
+use Rattle.wide.proofs.Narrowing.{field}
+use Rattle.wide.proofs.Writing.{same-header}
+use Rattle.wide.proofs.header.Statement.{statement}
+use Rattle.wide.proofs.header.Tie as tie
+
+signed-requires : tie.Need-signed-requires
+signed-requires c κs = search needs
+
+signed-requires-2 : tie.Need-signed-requires-2
+signed-requires-2 c κs = search needs
+
+returns : tie.Need-returns
+returns c =
+    let s = c .before .before in
+    let h = s .args in
+    let gx = field (c .before .signed .ok) (c .before .signed .ensures) (s .fits .gx) in
+    let gy = field (c .signed2 .ok) (c .signed2 .ensures) (s .fits .gy) in
+    subst (λ k. SameHeader k (headerWith (h .nx) (h .ny) (h .gx) (h .gy) (h .count) (h .steps)))
+    (sym (λ i. headerWith (h .nx) (h .ny) (gx i) (gy i) (h .count) (h .steps)))
+    (same-header (headerWith (h .nx) (h .ny) (h .gx) (h .gy) (h .count) (h .steps)))
+
+pub header-spec : {M : Type 1} → statement M
+header-spec = tie.close (tie.spec signed-requires signed-requires-2 returns)

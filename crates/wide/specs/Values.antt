@@ -1,0 +1,49 @@
+-- The numbers that a caller in another language hands in and gets.
+--     particleWith, headerWith    a particle and a header of these numbers, of any size
+--     three, sums, settings       the values of results, as lists; a particle's are its ten numbers (unpacked's specs)
+-- Assumes nothing.
+use mathlib.Core.List.{List, [], _∷_}
+use Prim.Native.Nat.{ℕ}
+use lib.IntN.{ℤ, pos}
+use Rattle.spline.specs.Answers.{Three}
+use Rattle.particle.specs.declared.Particle.{Particle}
+use Rattle.particles.specs.declared.Totals.{Totals}
+use Rattle.bath_file.specs.declared.Header.{Header}
+
+abbrev pub particleWith : ℕ → ℕ → ℕ → ℕ → ℤ → ℤ → ℤ → ℤ → ℤ → ℤ → Particle
+particleWith identifier mass x y vx vy bxx bxy byx byy =
+    record {
+      identifier = identifier;
+      mass = mass;
+      x = x;
+      y = y;
+      vx = vx;
+      vy = vy;
+      bxx = bxx;
+      bxy = bxy;
+      byx = byx;
+      byy = byy;
+    }
+
+abbrev pub headerWith : ℕ → ℕ → ℤ → ℤ → ℕ → ℕ → Header
+headerWith nx ny gx gy count steps =
+    record {
+      nx = nx;
+      ny = ny;
+      gx = gx;
+      gy = gy;
+      count = count;
+      steps = steps;
+    }
+
+-- the lower, the nearest and the upper weight
+abbrev pub three : Three → List ℤ
+three w = w .lower ∷ w .nearest ∷ w .upper ∷ []
+
+-- mass, px, py, spin, motion
+abbrev pub sums : Totals → List ℤ
+sums t = pos (t .mass) ∷ t .px ∷ t .py ∷ t .spin ∷ t .motion ∷ []
+
+-- Nx, Ny, gx, gy, count, steps
+abbrev pub settings : Header → List ℤ
+settings h = pos (h .nx) ∷ pos (h .ny) ∷ h .gx ∷ h .gy ∷ pos (h .count) ∷ pos (h .steps) ∷ []

@@ -1,0 +1,302 @@
+/*
+ * Holds the static library and its header to what the header says: every limit of a record and of a
+ * header at its edge and far beyond, refusals by name and by text, empty slices, and a file that is
+ * written and read back. Exits with 1 where something differs, and says where.
+ */
+#include <inttypes.h>
+#include <stdio.h>
+#include <string.h>
+
+#include "gondwize.h"
+
+static int failures;
+
+static void same(const char *what, uint64_t got, uint64_t want)
+{
+    if (got == want)
+        return;
+    failures++;
+    printf("%s: %" PRIu64 ", and not %" PRIu64 "\n", what, got, want);
+}
+
+static uint64_t refused(enum gondwize_refusal number, uint64_t place)
+{
+    return ((uint64_t)number << 32) + place;
+}
+
+/* ---- A record of wide numbers. */
+
+struct record {
+    uint16_t identifier;
+    uint64_t mass, x, y;
+    int64_t v[2], b[4];
+};
+
+static const struct record plain = {7, 1, 64, 64, {3, -3}, {5, -5, 6, -6}};
+
+/* What a write answers. A refused one leaves the buffer, and an accepted one reads back as written. */
+static uint64_t written(const char *what, const struct record *r)
+{
+    uint8_t bytes[GONDWIZE_RECORD_LENGTH], before[GONDWIZE_RECORD_LENGTH];
+    int64_t p[GONDWIZE_PARTICLE_VALUES];
+    memset(before, 0xA5, sizeof before);
+    memcpy(bytes, before, sizeof bytes);
+    uint64_t answer = gondwize_write_record(r->identifier, r->mass, r->x, r->y, r->v[0], r->v[1],
+                                            r->b[0], r->b[1], r->b[2], r->b[3], bytes, sizeof bytes);
+    if (answer != 0) {
+        same(what, (uint64_t)memcmp(bytes, before, sizeof bytes), 0);
+        return answer;
+    }
+    same(what, gondwize_read_record(bytes, sizeof bytes, p), 0);
+    const int64_t want[GONDWIZE_PARTICLE_VALUES] = {
+        r->identifier, (int64_t)r->mass, (int64_t)r->x, (int64_t)r->y, r->v[0],
+        r->v[1], r->b[0], r->b[1], r->b[2], r->b[3]};
+    same(what, (uint64_t)memcmp(p, want, sizeof p), 0);
+    return 0;
+}
+
+static void unsigned_field(const char *what, size_t at, uint64_t least, uint64_t most,
+                           enum gondwize_refusal number)
+{
+    const uint64_t within[] = {least, most};
+    const uint64_t beyond[] = {most + 1, 65535, 65536, 65536 + least, 65537, 131072,
+                               UINT64_C(4294967297), UINT64_MAX};
+    struct record r = plain;
+    uint64_t *field = at == 0 ? &r.mass : at == 1 ? &r.x : &r.y;
+    for (size_t k = 0; k < sizeof within / sizeof *within; k++) {
+        *field = within[k];
+        same(what, written(what, &r), 0);
+    }
+    for (size_t k = 0; k < sizeof beyond / sizeof *beyond; k++) {
+        *field = beyond[k];
+        same(what, written(what, &r), refused(number, 0));
+    }
+    if (least > 0) {
+        *field = least - 1;
+        same(what, written(what, &r), refused(number, 0));
+    }
+}
+
+static void signed_field(const char *what, size_t at, int64_t most, enum gondwize_refusal number)
+{
+    const int64_t beyond[] = {most + 1, 32767, 32768, 65536, 65539, 4294967299, INT64_MAX,
+                              -most - 1, -32768, -32769, -65533, -65536, -4294967293, INT64_MIN};
+    struct record r = plain;
+    int64_t *field = at < 2 ? &r.v[at] : &r.b[at - 2];
+    for (int sign = -1; sign <= 1; sign++) {
+        *field = sign * most;
+        same(what, written(what, &r), 0);
+    }
+    for (size_t k = 0; k < sizeof beyond / sizeof *beyond; k++) {
+        *field = beyond[k];
+        same(what, written(what, &r), refused(number, 0));
+    }
+}
+
+static void records(void)
+{
+    static const char *const names[] = {"vx", "vy", "Bxx", "Bxy", "Byx", "Byy"};
+    unsigned_field("mass", 0, GONDWIZE_LEAST_MASS, GONDWIZE_MOST_MASS, GONDWIZE_REFUSED_MASS);
+    unsigned_field("x", 1, 0, GONDWIZE_MOST_POSITION, GONDWIZE_REFUSED_POSITION);
+    unsigned_field("y", 2, 0, GONDWIZE_MOST_POSITION, GONDWIZE_REFUSED_POSITION);
+    for (size_t at = 0; at < 6; at++)
+        signed_field(names[at], at, at < 2 ? GONDWIZE_MOST_VELOCITY : GONDWIZE_MOST_AFFINE,
+                     at < 2 ? GONDWIZE_REFUSED_VELOCITY : GONDWIZE_REFUSED_AFFINE);
+}
+
+/* ---- A header of wide numbers. */
+
+struct header {
+    size_t nx, ny;
+    int64_t gx, gy;
+    size_t count, steps;
+};
+
+static const struct header full = {GONDWIZE_MOST_NODES, GONDWIZE_MOST_NODES, -GONDWIZE_MOST_GRAVITY,
+                                   GONDWIZE_MOST_GRAVITY, 0, GONDWIZE_MOST_STEPS};
+
+static uint64_t header_written(const char *what, const struct header *h)
+{
+    uint8_t bytes[GONDWIZE_HEADER_LENGTH], before[GONDWIZE_HEADER_LENGTH];
+    int64_t values[GONDWIZE_HEADER_VALUES];
+    memset(before, 0xA5, sizeof before);
+    memcpy(bytes, before, sizeof bytes);
+    uint64_t answer = gondwize_write_header(h->nx, h->ny, h->gx, h->gy, h->count, h->steps,
+                                            bytes, sizeof bytes);
+    if (answer != 0) {
+        same(what, (uint64_t)memcmp(bytes, before, sizeof bytes), 0);
+    } else if (h->count == 0) {
+        const int64_t want[GONDWIZE_HEADER_VALUES] = {(int64_t)h->nx, (int64_t)h->ny, h->gx, h->gy,
+                                                      (int64_t)h->count, (int64_t)h->steps};
+        same(what, gondwize_read_file(bytes, sizeof bytes, values), 0);
+        same(what, (uint64_t)memcmp(values, want, sizeof values), 0);
+    }
+    return answer;
+}
+
+static void header_size(const char *what, size_t at, size_t least, size_t most,
+                        enum gondwize_refusal number)
+{
+    const size_t within[] = {least, most};
+    const size_t beyond[] = {most + 1, 65536 + least, 65536 + most, UINT32_MAX, SIZE_MAX};
+    struct header h = full;
+    size_t *const fields[] = {&h.nx, &h.ny, &h.count, &h.steps};
+    for (size_t k = 0; k < sizeof within / sizeof *within; k++) {
+        *fields[at] = within[k];
+        same(what, header_written(what, &h), 0);
+    }
+    for (size_t k = 0; k < sizeof beyond / sizeof *beyond; k++) {
+        *fields[at] = beyond[k];
+        same(what, header_written(what, &h), refused(number, 0));
+    }
+    if (least > 0) {
+        *fields[at] = least - 1;
+        same(what, header_written(what, &h), refused(number, 0));
+    }
+}
+
+static void headers(void)
+{
+    const int64_t beyond[] = {4097, 65536, 65541, -4097, -65531, INT64_MAX, INT64_MIN};
+    header_size("nx", 0, GONDWIZE_LEAST_NODES, GONDWIZE_MOST_NODES, GONDWIZE_REFUSED_GRID_SIZE);
+    header_size("ny", 1, GONDWIZE_LEAST_NODES, GONDWIZE_MOST_NODES, GONDWIZE_REFUSED_GRID_SIZE);
+    header_size("count", 2, 0, GONDWIZE_MOST_RECORDS, GONDWIZE_REFUSED_COUNT);
+    header_size("steps", 3, 0, GONDWIZE_MOST_STEPS, GONDWIZE_REFUSED_STEPS);
+    for (size_t k = 0; k < sizeof beyond / sizeof *beyond; k++) {
+        struct header h = full;
+        h.gx = beyond[k];
+        same("gx", header_written("gx", &h), refused(GONDWIZE_REFUSED_GRAVITY, 0));
+        h = full;
+        h.gy = beyond[k];
+        same("gy", header_written("gy", &h), refused(GONDWIZE_REFUSED_GRAVITY, 0));
+    }
+}
+
+/* ---- A run's settings, over an empty set. */
+
+static uint64_t mass[GONDWIZE_MOST_GRID];
+static int64_t px[GONDWIZE_MOST_GRID], py[GONDWIZE_MOST_GRID];
+
+static void run_answers(size_t nx, size_t ny, int64_t gx, int64_t gy, size_t steps, uint64_t want)
+{
+    size_t nodes = nx <= GONDWIZE_MOST_NODES && ny <= GONDWIZE_MOST_NODES ? nx * ny : 0;
+    uint64_t completed = 9;
+    same("run", gondwize_run(nx, ny, gx, gy, steps, NULL, 0, mass, nodes, px, nodes, py, nodes, &completed), want);
+    same("run's completed", completed, want == 0 ? steps : 0);
+}
+
+static void runs(void)
+{
+    const uint64_t size = refused(GONDWIZE_REFUSED_GRID_SIZE, 0);
+    const uint64_t gravity = refused(GONDWIZE_REFUSED_GRAVITY, 0);
+    const uint64_t steps = refused(GONDWIZE_REFUSED_STEPS, 0);
+    run_answers(4, 48, 4096, -4096, 2, 0);
+    run_answers(48, 4, -4096, 4096, 10000, 0);
+    run_answers(3, 48, 0, 0, 1, size);
+    run_answers(49, 48, 0, 0, 1, size);
+    run_answers(48, 3, 0, 0, 1, size);
+    run_answers(48, 65540, 0, 0, 1, size);
+    run_answers(4, 4, 4097, 0, 1, gravity);
+    run_answers(4, 4, 65541, 0, 1, gravity);
+    run_answers(4, 4, 0, -65531, 1, gravity);
+    run_answers(4, 4, 0, 0, 10001, steps);
+    run_answers(4, 4, 0, 0, 65537, steps);
+    run_answers(4, 4, 0, 0, SIZE_MAX, steps);
+}
+
+/* ---- Empty slices, at NULL. */
+
+static void empty_slices(void)
+{
+    int64_t values[GONDWIZE_PARTICLE_VALUES];
+    uint64_t number = 9;
+    int64_t *x = px, *y = py;
+    const uint64_t length = refused(GONDWIZE_REFUSED_LENGTH, 0);
+    same("read_record", gondwize_read_record(NULL, 0, values), length);
+    same("write_record", gondwize_write_record(7, 1, 64, 64, 0, 0, 0, 0, 0, 0, NULL, 0), length);
+    same("check_set", gondwize_check_set(4, 4, NULL, 0, &number), 0);
+    same("check_set's count", number, 0);
+    same("totals", gondwize_totals(4, 4, NULL, 0, values), 0);
+    for (int k = 0; k < GONDWIZE_TOTALS_VALUES; k++)
+        same("totals' values", (uint64_t)values[k], 0);
+    same("scatter", gondwize_scatter(4, 4, NULL, 0, mass, 16, x, 16, y, 16), 0);
+    same("scatter's mass", gondwize_scatter(4, 4, NULL, 0, NULL, 0, x, 16, y, 16), length);
+    same("scatter's px", gondwize_scatter(4, 4, NULL, 0, mass, 16, NULL, 0, y, 16), length);
+    same("scatter's py", gondwize_scatter(4, 4, NULL, 0, mass, 16, x, 16, NULL, 0), length);
+    same("update's mass", gondwize_update(4, 4, 0, 0, NULL, 0, x, 16, y, 16), length);
+    same("update's px", gondwize_update(4, 4, 0, 0, mass, 16, NULL, 0, y, 16), length);
+    same("update's py", gondwize_update(4, 4, 0, 0, mass, 16, x, 16, NULL, 0), length);
+    same("gather", gondwize_gather(4, 4, NULL, 0, x, 16, y, 16), 0);
+    same("gather's ux", gondwize_gather(4, 4, NULL, 0, NULL, 0, y, 16), length);
+    same("gather's uy", gondwize_gather(4, 4, NULL, 0, x, 16, NULL, 0), length);
+    same("step", gondwize_step(4, 4, 1, 1, NULL, 0, mass, 16, x, 16, y, 16), 0);
+    same("step's mass", gondwize_step(4, 4, 1, 1, NULL, 0, NULL, 0, x, 16, y, 16), length);
+    same("step's px", gondwize_step(4, 4, 1, 1, NULL, 0, mass, 16, NULL, 0, y, 16), length);
+    same("step's py", gondwize_step(4, 4, 1, 1, NULL, 0, mass, 16, x, 16, NULL, 0), length);
+    same("run", gondwize_run(4, 4, 1, 1, 3, NULL, 0, mass, 16, x, 16, y, 16, &number), 0);
+    same("run's completed", number, 3);
+    same("run's slices", gondwize_run(4, 4, 1, 1, 3, NULL, 0, NULL, 0, NULL, 0, NULL, 0, &number), length);
+    same("a refused run's completed", number, 0);
+    same("read_file", gondwize_read_file(NULL, 0, values), length);
+    same("write_header", gondwize_write_header(4, 4, 0, 0, 0, 0, NULL, 0), length);
+}
+
+/* ---- Answers and their texts. */
+
+static void answers(void)
+{
+#define CHECKED(number, name, text) \
+    same("constant " #name, GONDWIZE_REFUSED_##name, number); \
+    same("text of " #name, (uint64_t)strcmp(gondwize_refusal_text(number), text), 0);
+    GONDWIZE_REFUSALS(CHECKED)
+#undef CHECKED
+    same("text of 0", (uint64_t)strcmp(gondwize_refusal_text(0), "not refused"), 0);
+    same("text of 18", (uint64_t)strcmp(gondwize_refusal_text(18), "unknown refusal"), 0);
+    same("version", (uint64_t)strcmp(GONDWIZE_VERSION, "1.0.0"), 0);
+    same("length of a file", GONDWIZE_FILE_LENGTH(3), 51);
+    same("length of the longest file", GONDWIZE_FILE_LENGTH(GONDWIZE_MOST_RECORDS), GONDWIZE_MOST_FILE_LENGTH);
+    same("length of the longest set", GONDWIZE_MOST_SET_LENGTH, 57344);
+}
+
+/* ---- A file of three particles, the last beyond the grid, written and read. */
+
+static void files(void)
+{
+    enum { COUNT = 3, NX = 4, NY = 5 };
+    uint8_t file[GONDWIZE_FILE_LENGTH(COUNT)];
+    int64_t values[GONDWIZE_HEADER_VALUES];
+    const int64_t want[GONDWIZE_HEADER_VALUES] = {NX, NY, -1, 1, COUNT, 2};
+    const uint64_t last = GONDWIZE_LAST_PLACE(NX);
+    uint64_t number = 0;
+    same("header", gondwize_write_header(NX, NY, -1, 1, COUNT, 2, file, GONDWIZE_HEADER_LENGTH), 0);
+    for (uint16_t k = 0; k < COUNT; k++) {
+        uint8_t *at = file + GONDWIZE_FILE_LENGTH(k);
+        same("record", gondwize_write_record(k, 5, last, GONDWIZE_FIRST_PLACE, 0, 0, 0, 0, 0, 0, at,
+                                             GONDWIZE_RECORD_LENGTH), 0);
+    }
+    same("file", gondwize_read_file(file, sizeof file, values), 0);
+    same("file's values", (uint64_t)memcmp(values, want, sizeof values), 0);
+    same("file's records", gondwize_check_set(NX, NY, file + GONDWIZE_HEADER_LENGTH,
+                                              sizeof file - GONDWIZE_HEADER_LENGTH, &number), 0);
+    same("file's count", number, COUNT);
+    same("last record", gondwize_write_record(COUNT, 5, last + 1, GONDWIZE_FIRST_PLACE, 0, 0, 0, 0, 0, 0,
+                                              file + GONDWIZE_FILE_LENGTH(COUNT - 1),
+                                              GONDWIZE_RECORD_LENGTH), 0);
+    uint64_t answer = gondwize_read_file(file, sizeof file, values);
+    same("file's refusal", GONDWIZE_NUMBER(answer), GONDWIZE_REFUSED_POSITION);
+    same("its record", GONDWIZE_PLACE(answer), COUNT - 1);
+    same("its values", (uint64_t)memcmp(values, want, sizeof values), 0);
+}
+
+int main(void)
+{
+    records();
+    headers();
+    runs();
+    empty_slices();
+    answers();
+    files();
+    if (failures != 0)
+        printf("%d answers differ\n", failures);
+    return failures != 0;
+}
