@@ -222,23 +222,3 @@ fn lists_of_calls_keep_to_demand_3() {
     }
     assert!(completed > 500, "{completed}");
 }
-
-#[test]
-fn the_ledger_sees_what_breaks_demand_3() {
-    let start = [lone(100, 7)];
-    let ledger = Ledger::new(&start);
-    assert!(ledger.check(&start).is_ok());
-    assert!(ledger.check(&[]).is_err());
-    assert!(ledger.check(&[lone(100, 6)]).is_err());
-    assert!(ledger.check(&[start[0].with_b([0, 1, 0, 0])]).is_err());
-    assert!(ledger
-        .check(&[Particle {
-            mass: 4,
-            ..start[0]
-        }])
-        .is_err());
-    let mut ledger = Ledger::new(&start);
-    ledger.count_step(&start, Settings::new(Size::new(8, 8), 512, 0));
-    assert!(ledger.check(&[lone(109, 9)]).is_ok());
-    assert!(ledger.check(&[lone(107, 7)]).is_err());
-}
