@@ -136,6 +136,7 @@ pub struct Header {
 
 impl Header {
     /// The settings of a run of this file.
+    #[must_use]
     pub fn settings(&self) -> Settings {
         Settings {
             size: self.size,
@@ -145,7 +146,18 @@ impl Header {
     }
 }
 
-/// The answer of a run.
+/// The answer of a run. The compiler warns where it is dropped unseen:
+///
+/// ```compile_fail
+/// # #![deny(unused_must_use)]
+/// # use engine::{run, GridBuffers, Settings, Size};
+/// # let settings = Settings { size: Size { nx: 4, ny: 4 }, gx: 0, gy: 0 };
+/// # let mut records = [0; 0];
+/// # let (mut mass, mut x, mut y) = ([0; 16], [0; 16], [0; 16]);
+/// # let mut grid = GridBuffers { mass: &mut mass, x: &mut x, y: &mut y };
+/// run(settings, 1, &mut records, &mut grid);
+/// ```
+#[must_use = "a run can be refused, or stop before its last step"]
 #[derive(Clone, Copy, Debug, PartialEq, Eq, Hash)]
 pub struct RunAnswer {
     /// Number of completed steps.

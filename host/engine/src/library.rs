@@ -2,6 +2,15 @@
 //!
 //! The safe functions of this crate call these; tests call them for what the safe ones rule out, such
 //! as a slice of values of the wrong length. A [`Library`] can be another one with the same calls.
+//! Only unsafe code can make one:
+//!
+//! ```compile_fail,E0133
+//! use engine::library::{Functions, Library};
+//!
+//! fn made(functions: Functions) -> Library {
+//!     Library::new(functions)
+//! }
+//! ```
 
 use crate::{ffi, GridBuffers, Header, Particle, Settings, Size};
 
@@ -12,10 +21,10 @@ type NumbersOut = *mut i64;
 type Masses = *const u64;
 type MassesOut = *mut u64;
 
-/// The functions of a library. Each does no more with its pointers than the one of [`ffi`] with its name.
+/// The functions of a library, each with the name of the one of [`ffi`] that it stands for.
 #[derive(Clone, Copy)]
 #[allow(missing_docs, clippy::type_complexity)]
-pub struct Library {
+pub struct Functions {
     pub read_record: unsafe extern "C" fn(Bytes, usize, NumbersOut, usize) -> u64,
     pub write_record: unsafe extern "C" fn(
         u16,
@@ -96,29 +105,52 @@ pub struct Library {
         unsafe extern "C" fn(usize, usize, i16, i16, usize, usize, BytesOut, usize) -> u64,
 }
 
+/// A library whose functions may be called on any slices.
+#[derive(Clone, Copy)]
+pub struct Library {
+    functions: Functions,
+}
+
 /// The static library of the proved crates.
-pub const PROVED: Library = Library {
-    read_record: ffi::gondwize_read_record,
-    write_record: ffi::gondwize_write_record,
-    check_set: ffi::gondwize_check_set,
-    totals: ffi::gondwize_totals,
-    weights: ffi::gondwize_weights,
-    scatter: ffi::gondwize_scatter,
-    update: ffi::gondwize_update,
-    gather: ffi::gondwize_gather,
-    step: ffi::gondwize_step,
-    run: ffi::gondwize_run,
-    read_file: ffi::gondwize_read_file,
-    write_header: ffi::gondwize_write_header,
+pub const PROVED: Library = {
+    let functions = Functions {
+        read_record: ffi::gondwize_read_record,
+        write_record: ffi::gondwize_write_record,
+        check_set: ffi::gondwize_check_set,
+        totals: ffi::gondwize_totals,
+        weights: ffi::gondwize_weights,
+        scatter: ffi::gondwize_scatter,
+        update: ffi::gondwize_update,
+        gather: ffi::gondwize_gather,
+        step: ffi::gondwize_step,
+        run: ffi::gondwize_run,
+        read_file: ffi::gondwize_read_file,
+        write_header: ffi::gondwize_write_header,
+    };
+    // SAFETY: `include/gondwize.h` promises it of each function.
+    unsafe { Library::new(functions) }
 };
 
-// SAFETY, of every call below: the pointers are those of slices with their lengths, and what is
-// written to is borrowed by itself.
+// SAFETY, of every call below: the pointers are those of slices with their lengths, what is written to
+// is borrowed by itself, and [`Library::new`] was given functions that ask no more.
 impl Library {
+    /// The library with these functions.
+    ///
+    /// # Safety
+    ///
+    /// Each function takes any numbers and any contents where its pointers are as [`ffi`] asks. Of
+    /// memory that is not its own it reads and writes only what pointers and lengths cover, writes only
+    /// through `*mut` and only initialised elements, and keeps no pointer. It does not unwind, and
+    /// several threads may call it at the same time.
+    pub const unsafe fn new(functions: Functions) -> Self {
+        Library { functions }
+    }
+
     /// Read a record: ten values.
+    #[must_use]
     pub fn read_record(&self, bytes: &[u8], values: &mut [i64]) -> u64 {
         unsafe {
-            (self.read_record)(
+            (self.functions.read_record)(
                 bytes.as_ptr(),
                 bytes.len(),
                 values.as_mut_ptr(),
@@ -128,9 +160,10 @@ impl Library {
     }
 
     /// Write a record.
+    #[must_use]
     pub fn write_record(&self, p: &Particle, bytes: &mut [u8]) -> u64 {
         unsafe {
-            (self.write_record)(
+            (self.functions.write_record)(
                 p.identifier,
                 p.mass,
                 p.x,
@@ -148,9 +181,10 @@ impl Library {
     }
 
     /// Check a set: one value.
+    #[must_use]
     pub fn check_set(&self, size: Size, records: &[u8], count: &mut [u64]) -> u64 {
         unsafe {
-            (self.check_set)(
+            (self.functions.check_set)(
                 size.nx,
                 size.ny,
                 records.as_ptr(),
@@ -162,9 +196,10 @@ impl Library {
     }
 
     /// Totals: five values.
+    #[must_use]
     pub fn totals(&self, size: Size, records: &[u8], values: &mut [i64]) -> u64 {
         unsafe {
-            (self.totals)(
+            (self.functions.totals)(
                 size.nx,
                 size.ny,
                 records.as_ptr(),
@@ -176,14 +211,16 @@ impl Library {
     }
 
     /// Weights: three values.
+    #[must_use]
     pub fn weights(&self, q: i64, values: &mut [i64]) -> u64 {
-        unsafe { (self.weights)(q, values.as_mut_ptr(), values.len()) }
+        unsafe { (self.functions.weights)(q, values.as_mut_ptr(), values.len()) }
     }
 
     /// Scatter.
+    #[must_use]
     pub fn scatter(&self, size: Size, records: &[u8], grid: &mut GridBuffers) -> u64 {
         unsafe {
-            (self.scatter)(
+            (self.functions.scatter)(
                 size.nx,
                 size.ny,
                 records.as_ptr(),
@@ -199,10 +236,11 @@ impl Library {
     }
 
     /// Update.
+    #[must_use]
     pub fn update(&self, settings: Settings, grid: &mut GridBuffers) -> u64 {
         let Settings { size, gx, gy } = settings;
         unsafe {
-            (self.update)(
+            (self.functions.update)(
                 size.nx,
                 size.ny,
                 gx,
@@ -218,9 +256,10 @@ impl Library {
     }
 
     /// Gather.
+    #[must_use]
     pub fn gather(&self, size: Size, records: &mut [u8], x: &[i64], y: &[i64]) -> u64 {
         unsafe {
-            (self.gather)(
+            (self.functions.gather)(
                 size.nx,
                 size.ny,
                 records.as_mut_ptr(),
@@ -234,10 +273,11 @@ impl Library {
     }
 
     /// Step.
+    #[must_use]
     pub fn step(&self, settings: Settings, records: &mut [u8], grid: &mut GridBuffers) -> u64 {
         let Settings { size, gx, gy } = settings;
         unsafe {
-            (self.step)(
+            (self.functions.step)(
                 size.nx,
                 size.ny,
                 gx,
@@ -255,6 +295,7 @@ impl Library {
     }
 
     /// Run: one value.
+    #[must_use]
     pub fn run(
         &self,
         settings: Settings,
@@ -265,7 +306,7 @@ impl Library {
     ) -> u64 {
         let Settings { size, gx, gy } = settings;
         unsafe {
-            (self.run)(
+            (self.functions.run)(
                 size.nx,
                 size.ny,
                 gx,
@@ -286,9 +327,10 @@ impl Library {
     }
 
     /// Read a file: six values.
+    #[must_use]
     pub fn read_file(&self, bytes: &[u8], values: &mut [i64]) -> u64 {
         unsafe {
-            (self.read_file)(
+            (self.functions.read_file)(
                 bytes.as_ptr(),
                 bytes.len(),
                 values.as_mut_ptr(),
@@ -298,9 +340,10 @@ impl Library {
     }
 
     /// Write a header.
+    #[must_use]
     pub fn write_header(&self, h: &Header, bytes: &mut [u8]) -> u64 {
         unsafe {
-            (self.write_header)(
+            (self.functions.write_header)(
                 h.size.nx,
                 h.size.ny,
                 h.gx,

@@ -65,12 +65,14 @@ impl Limit {
     ];
 
     /// The limit's number, 1 to 17.
+    #[must_use]
     pub fn number(self) -> u32 {
         self as u32
     }
 }
 
 /// Why a call is refused.
+#[must_use]
 #[derive(Clone, Copy, Debug, PartialEq, Eq, Hash)]
 pub struct Refusal {
     /// The limit that is broken.
