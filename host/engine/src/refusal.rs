@@ -3,67 +3,52 @@
 use std::error::Error;
 use std::fmt;
 
-/// A limit, in the order of its number.
-#[derive(Clone, Copy, Debug, PartialEq, Eq, PartialOrd, Ord, Hash)]
-pub enum Limit {
-    /// 1: a slice has the wrong length.
-    Length = 1,
-    /// 2: Nx or Ny is not 4 to 48.
-    GridSize = 2,
-    /// 3: a file's count is above 4096.
-    Count = 3,
-    /// 4: a mass is not 1 to 1023.
-    Mass = 4,
-    /// 5: a velocity is beyond ±63.
-    Velocity = 5,
-    /// 6: an entry of B is beyond ±2047.
-    Affine = 6,
-    /// 7: a position is off the grid, or an offset is not −32 to 31.
-    Position = 7,
-    /// 8: an identifier is not above the one before.
-    Identifier = 8,
-    /// 9: the mass so far is above 131,072.
-    TotalMass = 9,
-    /// 10: gravity is beyond ±4096.
-    Gravity = 10,
-    /// 11: a node's mass is above 2^43, or 0 with a momentum.
-    NodeMass = 11,
-    /// 12: a node's velocity is beyond ±131,072.
-    NodeVelocity = 12,
-    /// 13: a new velocity is beyond ±63.
-    NewVelocity = 13,
-    /// 14: a new entry of B is beyond ±2047.
-    NewAffine = 14,
-    /// 15: a new position is off the grid.
-    NewPosition = 15,
-    /// 16: a file's spare bits are not zero.
-    SpareBits = 16,
-    /// 17: more than 10,000 steps.
-    Steps = 17,
+/// The limits by number, each with its name and its text, which is that of the list in
+/// `include/gondwize.h`.
+macro_rules! limits {
+    ($($number:literal $name:ident $text:literal,)*) => {
+        /// A limit, in the order of its number.
+        #[derive(Clone, Copy, Debug, PartialEq, Eq, PartialOrd, Ord, Hash)]
+        pub enum Limit {
+            $(#[doc = concat!(stringify!($number), ": ", $text, ".")] $name = $number,)*
+        }
+
+        impl Limit {
+            /// All limits, by number.
+            pub const ALL: [Limit; [$($number),*].len()] = [$(Limit::$name),*];
+
+            /// What is wrong where the limit is broken.
+            #[must_use]
+            pub fn text(self) -> &'static str {
+                match self {
+                    $(Limit::$name => $text,)*
+                }
+            }
+        }
+    };
+}
+
+limits! {
+    1 Length "a slice has the wrong length",
+    2 GridSize "nx or ny is not 4 to 48",
+    3 Count "a file's count is above 4096",
+    4 Mass "a mass is not 1 to 1023",
+    5 Velocity "a velocity is beyond +-63",
+    6 Affine "an entry of B is beyond +-2047",
+    7 Position "a position is off the grid, or an offset is not -32 to 31",
+    8 Identifier "an identifier is not above the one before",
+    9 TotalMass "the mass so far is above 131,072",
+    10 Gravity "gravity is beyond +-4096",
+    11 NodeMass "a node's mass is above 2^43, or 0 with a momentum",
+    12 NodeVelocity "a node's velocity is beyond +-131,072",
+    13 NewVelocity "a new velocity is beyond +-63",
+    14 NewAffine "a new entry of B is beyond +-2047",
+    15 NewPosition "a new position is off the grid",
+    16 SpareBits "a file's spare bits are not zero",
+    17 Steps "more than 10,000 steps",
 }
 
 impl Limit {
-    /// All limits, by number.
-    pub const ALL: [Limit; 17] = [
-        Limit::Length,
-        Limit::GridSize,
-        Limit::Count,
-        Limit::Mass,
-        Limit::Velocity,
-        Limit::Affine,
-        Limit::Position,
-        Limit::Identifier,
-        Limit::TotalMass,
-        Limit::Gravity,
-        Limit::NodeMass,
-        Limit::NodeVelocity,
-        Limit::NewVelocity,
-        Limit::NewAffine,
-        Limit::NewPosition,
-        Limit::SpareBits,
-        Limit::Steps,
-    ];
-
     /// The limit's number, 1 to 17.
     #[must_use]
     pub fn number(self) -> u32 {
@@ -71,7 +56,22 @@ impl Limit {
     }
 }
 
+impl fmt::Display for Limit {
+    fn fmt(&self, out: &mut fmt::Formatter) -> fmt::Result {
+        out.pad(self.text())
+    }
+}
+
 /// Why a call is refused.
+///
+/// ```
+/// let refusal = engine::weights(32).expect_err("an offset out of range");
+/// assert_eq!((refusal.limit, refusal.place), (engine::Limit::Position, 0));
+/// assert_eq!(
+///     refusal.to_string(),
+///     "refused 7 at 0: a position is off the grid, or an offset is not -32 to 31"
+/// );
+/// ```
 #[must_use]
 #[derive(Clone, Copy, Debug, PartialEq, Eq, Hash)]
 pub struct Refusal {
@@ -104,7 +104,8 @@ impl Refusal {
 
 impl fmt::Display for Refusal {
     fn fmt(&self, out: &mut fmt::Formatter) -> fmt::Result {
-        write!(out, "refused {} at {}", self.limit.number(), self.place)
+        let Refusal { limit, place } = self;
+        write!(out, "refused {} at {place}: {limit}", limit.number())
     }
 }
 
