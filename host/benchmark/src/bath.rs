@@ -35,11 +35,11 @@ impl Bath {
         let mut pair = (0, 0, 0);
         let mut records = vec![0; RECORD_LENGTH * count];
         for (k, record) in records.chunks_exact_mut(RECORD_LENGTH).enumerate() {
-            let mut number = |low: i128, high: i128| numbers.between(low, high) as i16;
-            let (x, y) = (number(low, high) as u16, number(low, high) as u16);
+            let mut number = |low: i128, high: i128| numbers.between(low, high) as i64;
+            let (x, y) = (number(low, high) as u64, number(low, high) as u64);
             let [bxx, bxy, byx, byy] = std::array::from_fn(|_| number(-40, 40));
             if k % 2 == 0 {
-                pair = (number(1, 32) as u16, number(-2, 2), number(-2, 2));
+                pair = (number(1, 32) as u64, number(-2, 2), number(-2, 2));
             } else {
                 pair = (pair.0, -pair.1, -pair.2);
             }

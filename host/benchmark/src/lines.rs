@@ -145,7 +145,7 @@ impl Subject for Timed {
         };
         let answer = match self.line {
             Line::Run => {
-                let mut completed = [0];
+                let mut completed = 0;
                 let answer = library.run(
                     settings,
                     steps,
@@ -153,7 +153,7 @@ impl Subject for Timed {
                     &mut grid,
                     &mut completed,
                 );
-                assert_eq!(completed[0] as usize, steps);
+                assert_eq!(completed as usize, steps);
                 answer
             }
             Line::Step => library.step(settings, &mut self.records, &mut grid),
@@ -163,7 +163,7 @@ impl Subject for Timed {
                 let [x, y] = &self.velocity;
                 library.gather(settings.size, &mut self.records, x, y)
             }
-            Line::CheckSet => library.check_set(settings.size, records, &mut [0]),
+            Line::CheckSet => library.check_set(settings.size, records, &mut 0),
             Line::Totals => library.totals(settings.size, records, &mut [0; 5]),
             Line::ReadFile => library.read_file(&self.file, &mut [0; 6]),
             Line::ReadRecords => {
@@ -182,7 +182,7 @@ impl Subject for Timed {
             }
             Line::Weights => {
                 let mut values = [0; 3];
-                let offsets = self.particles.iter().map(|p| i64::from(p.x % 64) - 32);
+                let offsets = self.particles.iter().map(|p| (p.x % 64) as i64 - 32);
                 offsets.fold(0, |answer, q| answer | library.weights(q, &mut values))
             }
             Line::WriteHeaders => {
@@ -191,8 +191,8 @@ impl Subject for Timed {
                     size: settings.size,
                     gx: p.bxx,
                     gy: p.bxy,
-                    count: p.x.into(),
-                    steps: p.y.into(),
+                    count: p.x as usize,
+                    steps: p.y as usize,
                 });
                 headers.fold(0, |answer, header| {
                     answer | library.write_header(&header, &mut bytes)

@@ -8,32 +8,15 @@ use compare::{count, seed, stream};
 use reference::generator::Generator;
 use vectors::{Buffers, Operation};
 
-/// How many values an operation hands out.
-fn room(operation: Operation) -> usize {
-    match operation {
-        Operation::ReadRecord => 10,
-        Operation::ReadFile => 6,
-        Operation::Totals(_) => 5,
-        Operation::Weights(_) => 3,
-        _ => 0,
-    }
-}
+/// What the values hold before a call; no result has it.
+const BEFORE: i64 = i64::MIN;
 
 /// The answer, the values that the call hands out, and the buffers that it leaves.
-fn call(
-    library: &Library,
-    operation: Operation,
-    before: &Buffers,
-) -> (u64, Vec<i64>, u64, Buffers) {
+fn call(library: &Library, operation: Operation, before: &Buffers) -> (u64, Vec<i64>, Buffers) {
     let mut after = before.clone();
-    let (mut values, mut one) = (vec![i64::MIN; room(operation)], [u64::MAX / 2]);
-    let answer = by_library(library, operation, &mut after, &mut values, &mut one);
-    (
-        answer.expect("numbers that the library takes"),
-        values,
-        one[0],
-        after,
-    )
+    let answer = by_library(library, operation, &mut after, BEFORE);
+    let (answer, values) = answer.expect("numbers that the library takes");
+    (answer, values, after)
 }
 
 /// Both libraries on many inputs.

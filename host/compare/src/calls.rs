@@ -144,37 +144,61 @@ pub fn by_engine(operation: Operation, buffers: &mut Buffers) -> Option<Answer> 
     Some(answer.unwrap_or_else(|refused| Answer::Refused(refusal(refused))))
 }
 
-/// The number that a library answers, with slices for the values, or for the one value, that the call
-/// hands out; the buffers are left as the operation leaves them. None as for [`by_engine`].
+/// The answer of a call and the values that it hands out, which all hold `before` at first.
+fn handed<const N: usize>(before: i64, call: impl FnOnce(&mut [i64; N]) -> u64) -> (u64, Vec<i64>) {
+    let mut values = [before; N];
+    let answer = call(&mut values);
+    (answer, values.to_vec())
+}
+
+/// The same for a call that hands out one value.
+fn handed_one(before: i64, call: impl FnOnce(&mut u64) -> u64) -> (u64, Vec<i64>) {
+    let mut value = before as u64;
+    let answer = call(&mut value);
+    (answer, vec![value as i64])
+}
+
+/// The number that a library answers and the values that the call hands out, which all hold `before`
+/// at first; the buffers are left as the operation leaves them. None as for [`by_engine`].
 pub fn by_library(
     library: &Library,
     operation: Operation,
     buffers: &mut Buffers,
-    values: &mut [i64],
-    one: &mut [u64],
-) -> Option<u64> {
+    before: i64,
+) -> Option<(u64, Vec<i64>)> {
     let bytes = &mut buffers.bytes;
     let mut grid = GridBuffers {
         mass: &mut buffers.grid.mass,
         x: &mut buffers.grid.x,
         y: &mut buffers.grid.y,
     };
+    let none = |answer| (answer, Vec::new());
     Some(match operation {
-        Operation::ReadRecord => library.read_record(bytes, values),
-        Operation::WriteRecord(p) => library.write_record(&to_engine(p)?, bytes),
-        Operation::CheckSet(at) => library.check_set(size(at)?, bytes, one),
-        Operation::Totals(at) => library.totals(size(at)?, bytes, values),
-        Operation::Weights(q) => library.weights(q.try_into().ok()?, values),
-        Operation::Scatter(at) => library.scatter(size(at)?, bytes, &mut grid),
-        Operation::Update(given) => library.update(settings(given)?, &mut grid),
-        Operation::Gather(at) => library.gather(size(at)?, bytes, grid.x, grid.y),
-        Operation::Step(given) => library.step(settings(given)?, bytes, &mut grid),
-        Operation::Run(given, steps) => {
-            let steps = steps.try_into().ok()?;
-            library.run(settings(given)?, steps, bytes, &mut grid, one)
+        Operation::ReadRecord => handed(before, |values| library.read_record(bytes, values)),
+        Operation::WriteRecord(p) => none(library.write_record(&to_engine(p)?, bytes)),
+        Operation::CheckSet(at) => {
+            let size = size(at)?;
+            handed_one(before, |count| library.check_set(size, bytes, count))
         }
-        Operation::ReadFile => library.read_file(bytes, values),
-        Operation::WriteHeader(header) => library.write_header(&to_header(header)?, bytes),
+        Operation::Totals(at) => {
+            let size = size(at)?;
+            handed(before, |values| library.totals(size, bytes, values))
+        }
+        Operation::Weights(q) => {
+            let q = q.try_into().ok()?;
+            handed(before, |values| library.weights(q, values))
+        }
+        Operation::Scatter(at) => none(library.scatter(size(at)?, bytes, &mut grid)),
+        Operation::Update(given) => none(library.update(settings(given)?, &mut grid)),
+        Operation::Gather(at) => none(library.gather(size(at)?, bytes, grid.x, grid.y)),
+        Operation::Step(given) => none(library.step(settings(given)?, bytes, &mut grid)),
+        Operation::Run(given, steps) => {
+            let (given, steps) = (settings(given)?, steps.try_into().ok()?);
+            let grid = &mut grid;
+            handed_one(before, |done| library.run(given, steps, bytes, grid, done))
+        }
+        Operation::ReadFile => handed(before, |values| library.read_file(bytes, values)),
+        Operation::WriteHeader(header) => none(library.write_header(&to_header(header)?, bytes)),
         Operation::Program => return None,
     })
 }

@@ -5,25 +5,35 @@ use reference::particle_set::pack_records;
 use reference::{Grid, Header, Particle, Settings, Size};
 use vectors::{Buffers, Operation};
 
-/// A number at an end of its range, one beyond, inside, or anywhere in its type.
-fn near(numbers: &mut Generator, range: (i128, i128), kind: (i128, i128)) -> i128 {
+/// A number at an end of its range, one beyond, inside, inside but for a higher bit that a narrower
+/// type cuts off, or anywhere in its type.
+fn near(numbers: &mut Generator, range: (i128, i128), kind: Ends) -> i128 {
     let (low, high) = range;
-    let number = match numbers.between(0, 7) {
+    let number = match numbers.between(0, 8) {
         0 => low,
         1 => low - 1,
         2 => high,
         3 => high + 1,
         4 => numbers.between(kind.0, kind.1),
         5 => numbers.one_of(&[0, kind.0, kind.1]),
+        6 => {
+            let bit = numbers.one_of(&[-1, 1]) << numbers.between(6, 63);
+            numbers.between(low, high) + bit
+        }
         _ => numbers.between(low, high),
     };
     number.clamp(kind.0, kind.1)
 }
 
-const USIZE: (i128, i128) = (0, usize::MAX as i128);
-const I64: (i128, i128) = (i64::MIN as i128, i64::MAX as i128);
-const U16: (i128, i128) = (0, u16::MAX as i128);
-const I16: (i128, i128) = (i16::MIN as i128, i16::MAX as i128);
+/// The least and the greatest number of a type.
+pub type Ends = (i128, i128);
+
+/// Those of `usize`.
+pub const USIZE: Ends = (0, usize::MAX as i128);
+/// Those of `u64`.
+pub const U64: Ends = (0, u64::MAX as i128);
+/// Those of `i64`.
+pub const I64: Ends = (i64::MIN as i128, i64::MAX as i128);
 
 /// A size: mostly small and accepted.
 fn size(numbers: &mut Generator) -> Size {
@@ -68,7 +78,7 @@ fn particle(numbers: &mut Generator, size: Size) -> Particle {
 }
 
 /// One number of a particle at a limit or beyond, as far as the type of its field holds it.
-fn strain(numbers: &mut Generator, p: &mut Particle, u: (i128, i128), i: (i128, i128)) {
+fn strain(numbers: &mut Generator, p: &mut Particle, u: Ends, i: Ends) {
     match numbers.between(0, 8) {
         0 => p.mass = near(numbers, (1, 1023), u),
         1 => p.x = near(numbers, (0, 4095), u),
@@ -226,7 +236,7 @@ pub fn read_record(numbers: &mut Generator) -> Call {
 pub fn write_record(numbers: &mut Generator) -> Call {
     let mut given = particle(numbers, Size::new(48, 48));
     if numbers.once_in(2) {
-        strain(numbers, &mut given, U16, I16);
+        strain(numbers, &mut given, U64, I64);
     }
     let length = match numbers.between(0, 9) {
         0 => numbers.between(0, 40),
@@ -362,7 +372,7 @@ pub fn run(numbers: &mut Generator) -> Call {
 }
 
 /// A header, its numbers within what `kinds` says of gravity, and of the others.
-fn header(numbers: &mut Generator, size: Size, count: usize, kinds: [(i128, i128); 4]) -> Header {
+fn header(numbers: &mut Generator, size: Size, count: usize, kinds: [Ends; 4]) -> Header {
     let [side, gravity, counts, steps] = kinds;
     let mut header = Header {
         settings: Settings::new(
@@ -411,7 +421,7 @@ pub fn read_file(numbers: &mut Generator) -> Call {
 pub fn write_header(numbers: &mut Generator) -> Call {
     let size = size(numbers);
     let count = numbers.between(0, 4096) as usize;
-    let header = header(numbers, size, count, [USIZE, I16, USIZE, USIZE]);
+    let header = header(numbers, size, count, [USIZE, I64, USIZE, USIZE]);
     let length = numbers.one_of(&[9, 9, 9, 9, 9, 9, 9, 0, 8, 10, 14]);
     let buffer = any_bytes(numbers, length as usize);
     (Operation::WriteHeader(header), only(buffer))

@@ -3,7 +3,8 @@
 use std::path::Path;
 
 use compare::calls::{agreed, by_engine};
-use compare::{count, inputs, stream};
+use compare::inputs::{self, Ends, I64, U64, USIZE};
+use compare::{count, stream};
 use reference::report::report;
 use reference::{Grid, Header, Particle, Settings, Size};
 use vectors::{cases, Answer, Buffers, Operation};
@@ -33,6 +34,70 @@ fn offsets() {
             grid: Grid::zero(0),
         };
         agreed("offset", Operation::Weights(q.into()), &buffers).expect("a call");
+    }
+}
+
+/// Calls both on this operation for 5 with each higher bit of a type added or taken away.
+fn wide(length: usize, kind: Ends, operation: impl Fn(i128) -> Operation) {
+    let buffers = Buffers {
+        bytes: vec![0xA5; length],
+        grid: Grid::zero(0),
+    };
+    for bit in 6..64 {
+        for number in [5 + (1 << bit), 5 - (1 << bit)] {
+            if (kind.0..=kind.1).contains(&number) {
+                let (answer, _) = agreed("wide", operation(number), &buffers).expect("a call");
+                assert!(bit < 14 || answer.refusal().is_some(), "{number}");
+            }
+        }
+    }
+}
+
+/// A field: the ends of its type, and how it is set.
+type Field<T> = (Ends, fn(&mut T, i128));
+
+#[test]
+fn wide_numbers_of_a_record() {
+    let fields: [Field<Particle>; 9] = [
+        (U64, |p, n| p.mass = n),
+        (U64, |p, n| p.x = n),
+        (U64, |p, n| p.y = n),
+        (I64, |p, n| p.vx = n),
+        (I64, |p, n| p.vy = n),
+        (I64, |p, n| p.bxx = n),
+        (I64, |p, n| p.bxy = n),
+        (I64, |p, n| p.byx = n),
+        (I64, |p, n| p.byy = n),
+    ];
+    for (kind, set) in fields {
+        wide(14, kind, |number| {
+            let mut particle = Particle::at_rest(7, 2, 64, 64);
+            set(&mut particle, number);
+            Operation::WriteRecord(particle)
+        });
+    }
+}
+
+#[test]
+fn wide_numbers_of_a_header() {
+    let fields: [Field<Header>; 6] = [
+        (USIZE, |h, n| h.settings.size.nx = n),
+        (USIZE, |h, n| h.settings.size.ny = n),
+        (I64, |h, n| h.settings.gx = n),
+        (I64, |h, n| h.settings.gy = n),
+        (USIZE, |h, n| h.count = n),
+        (USIZE, |h, n| h.steps = n),
+    ];
+    for (kind, set) in fields {
+        wide(9, kind, |number| {
+            let mut header = Header {
+                settings: Settings::new(Size::new(4, 4), 0, 0),
+                count: 0,
+                steps: 0,
+            };
+            set(&mut header, number);
+            Operation::WriteHeader(header)
+        });
     }
 }
 

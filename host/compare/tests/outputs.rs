@@ -1,52 +1,72 @@
-//! A slice for the values of another length than they: the answer of its own, before anything else,
-//! and nothing changed.
+//! The values that the library's calls hand out: those of the reference's result, in the order of the
+//! C header; those that were there before where the call is refused, but for a run.
 
 use compare::calls::{by_library, by_reference};
 use compare::inputs::{self, Call};
 use compare::{count, stream};
-use engine::ffi::WRONG_OUTPUT;
 use engine::library::PROVED;
 use reference::generator::Generator;
-use vectors::Operation;
+use reference::{Header, Settings, Size, Totals};
+use vectors::Answer;
 
-/// What the slices hold before a call; no result has it.
+/// What the values hold before a call; no result has it.
 const BEFORE: i64 = i64::MIN;
-const ONE_BEFORE: u64 = u64::MAX / 2;
 
-/// Calls with slices of 0 to 12 numbers, of which one length is right.
-fn compare(name: &str, make: fn(&mut Generator) -> Call, right: usize) {
-    for input in 0..count().div_ceil(10) {
-        let mut numbers = stream(name, input);
-        let (operation, before) = make(&mut numbers);
-        let room = numbers.between(0, 12) as usize;
-        let (mut values, mut one) = (vec![BEFORE; room], vec![ONE_BEFORE; room]);
-        let mut after = before.clone();
-        let told = by_library(&PROVED, operation, &mut after, &mut values, &mut one);
-        let told = told.expect("numbers that the library takes");
-        let kept = values == vec![BEFORE; room] && one == vec![ONE_BEFORE; room];
-        if room != right {
-            assert!(told == WRONG_OUTPUT && kept && after == before, "{name}");
-            continue;
+/// The values of a result, none where the call is refused.
+fn values(answer: Answer) -> Option<Vec<i128>> {
+    match answer {
+        Answer::Particle(particle) => Some(particle.fields().to_vec()),
+        Answer::Count(count) => Some(vec![count as i128]),
+        Answer::Totals(totals) => {
+            let Totals { mass, px, py, .. } = totals;
+            let (spin, motion) = (totals.angular_momentum, totals.motion);
+            Some(vec![mass, px, py, spin, motion])
         }
+        Answer::Weights(row) => Some(row.to_vec()),
+        Answer::Ran(answer) => Some(vec![answer.completed as i128]),
+        Answer::Header(header) => {
+            let Header {
+                settings,
+                count,
+                steps,
+            } = header;
+            let Settings { size, gx, gy } = settings;
+            let Size { nx, ny } = size;
+            Some(vec![nx, ny, gx, gy, count, steps])
+        }
+        Answer::Refused(_) => None,
+        other => panic!("no values: {other:?}"),
+    }
+}
+
+/// Calls with values to hand out, on one input in ten.
+fn compare(name: &str, make: fn(&mut Generator) -> Call) {
+    for input in 0..count().div_ceil(10) {
+        let (operation, before) = make(&mut stream(name, input));
+        let mut after = before.clone();
+        let found = by_library(&PROVED, operation, &mut after, BEFORE);
+        let (code, found) = found.expect("numbers that the library takes");
         let mut expected = before.clone();
-        let refusal = by_reference(operation, &mut expected).refusal();
-        let code = refusal.map_or(0, |r| u64::from(r.number) << 32 | r.place as u64);
-        assert!(told == code && after == expected, "{name}");
-        let is_run = matches!(operation, Operation::Run(..));
-        assert_eq!(kept, refusal.is_some() && !is_run, "{name}");
+        let answer = by_reference(operation, &mut expected);
+        let refusal = answer.refusal();
+        let told = refusal.map_or(0, |r| u64::from(r.number) << 32 | r.place as u64);
+        assert!(code == told && after == expected, "{name}: {operation:?}");
+        let kept = vec![BEFORE.into(); found.len()];
+        let found: Vec<i128> = found.into_iter().map(i128::from).collect();
+        assert_eq!(found, values(answer).unwrap_or(kept), "{name}");
     }
 }
 
 #[test]
-fn values() {
-    compare("values of a record", inputs::read_record, 10);
-    compare("values of a file", inputs::read_file, 6);
-    compare("values of totals", inputs::totals, 5);
-    compare("values of weights", inputs::weights, 3);
+fn arrays() {
+    compare("values of a record", inputs::read_record);
+    compare("values of a file", inputs::read_file);
+    compare("values of totals", inputs::totals);
+    compare("values of weights", inputs::weights);
 }
 
 #[test]
 fn one_value() {
-    compare("count of a set", inputs::check_set, 1);
-    compare("steps of a run", inputs::run, 1);
+    compare("count of a set", inputs::check_set);
+    compare("steps of a run", inputs::run);
 }

@@ -1,35 +1,32 @@
 //! The static library's functions as they are: `include/gondwize.h` in Rust.
 //!
-//! Each `&[T]` of the engine passes as a pointer and a length. [`crate::library`] calls these with slices.
+//! Each `&[T]` of the engine passes as a pointer and a length, each array and single value as a
+//! pointer. [`crate::library`] calls these with slices.
 //!
 //! # Safety
 //!
 //! Every pointer is aligned, not null, and leads to as many initialised elements as the length after
-//! it says. What is written to overlaps nothing else of the call.
-
-/// The answer where the slice for the values has another length than they.
-pub const WRONG_OUTPUT: u64 = u64::MAX;
+//! it says, or to what its type says. What is written to overlaps nothing else of the call.
 
 #[allow(missing_docs)]
 unsafe extern "C" {
     pub fn gondwize_read_record(
         bytes: *const u8,
         bytes_length: usize,
-        values: *mut i64,
-        values_length: usize,
+        values: *mut [i64; 10],
     ) -> u64;
 
     pub fn gondwize_write_record(
         identifier: u16,
-        mass: u16,
-        x: u16,
-        y: u16,
-        vx: i16,
-        vy: i16,
-        bxx: i16,
-        bxy: i16,
-        byx: i16,
-        byy: i16,
+        mass: u64,
+        x: u64,
+        y: u64,
+        vx: i64,
+        vy: i64,
+        bxx: i64,
+        bxy: i64,
+        byx: i64,
+        byy: i64,
         bytes: *mut u8,
         bytes_length: usize,
     ) -> u64;
@@ -40,7 +37,6 @@ unsafe extern "C" {
         records: *const u8,
         records_length: usize,
         count: *mut u64,
-        count_length: usize,
     ) -> u64;
 
     pub fn gondwize_totals(
@@ -48,11 +44,10 @@ unsafe extern "C" {
         ny: usize,
         records: *const u8,
         records_length: usize,
-        values: *mut i64,
-        values_length: usize,
+        values: *mut [i64; 5],
     ) -> u64;
 
-    pub fn gondwize_weights(q: i64, values: *mut i64, values_length: usize) -> u64;
+    pub fn gondwize_weights(q: i64, values: *mut [i64; 3]) -> u64;
 
     pub fn gondwize_scatter(
         nx: usize,
@@ -121,21 +116,15 @@ unsafe extern "C" {
         py: *mut i64,
         py_length: usize,
         completed: *mut u64,
-        completed_length: usize,
     ) -> u64;
 
-    pub fn gondwize_read_file(
-        bytes: *const u8,
-        bytes_length: usize,
-        values: *mut i64,
-        values_length: usize,
-    ) -> u64;
+    pub fn gondwize_read_file(bytes: *const u8, bytes_length: usize, values: *mut [i64; 6]) -> u64;
 
     pub fn gondwize_write_header(
         nx: usize,
         ny: usize,
-        gx: i16,
-        gy: i16,
+        gx: i64,
+        gy: i64,
         count: usize,
         steps: usize,
         bytes: *mut u8,

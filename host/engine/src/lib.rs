@@ -30,7 +30,8 @@
 //! | step, run | [`step`], [`run`] |
 //! | read a file, write its header | [`read_file`], [`write_header`] |
 //!
-//! A call needs up to 700 kB of stack.
+//! A call needs up to 700 kB of stack. Where a thread has less, the process ends, as with any function
+//! that overflows its stack.
 
 #![warn(missing_docs)]
 
@@ -48,29 +49,30 @@ pub const RECORD_LENGTH: usize = 14;
 /// Length of a bath file's header in bytes.
 pub const HEADER_LENGTH: usize = 9;
 
-/// One particle. Every number can be written down; the operations refuse those out of range.
+/// One particle. Numbers are as wide as those of the C functions, so that nothing is cut on the way in:
+/// a number that the record's field does not hold is refused.
 #[derive(Clone, Copy, Debug, Default, PartialEq, Eq, Hash)]
 pub struct Particle {
     /// Identifier.
     pub identifier: u16,
     /// Mass, 1 to 1023.
-    pub mass: u16,
+    pub mass: u64,
     /// Place on the x axis, nodes 64 apart; at most 4095 in a record.
-    pub x: u16,
+    pub x: u64,
     /// Place on the y axis.
-    pub y: u16,
+    pub y: u64,
     /// Velocity on the x axis, −63 to 63.
-    pub vx: i16,
+    pub vx: i64,
     /// Velocity on the y axis.
-    pub vy: i16,
+    pub vy: i64,
     /// Affine state B, velocity axis x, offset axis x; each entry −2047 to 2047.
-    pub bxx: i16,
+    pub bxx: i64,
     /// B, velocity axis x, offset axis y.
-    pub bxy: i16,
+    pub bxy: i64,
     /// B, velocity axis y, offset axis x.
-    pub byx: i16,
+    pub byx: i64,
     /// B, velocity axis y, offset axis y.
-    pub byy: i16,
+    pub byy: i64,
 }
 
 /// Number of nodes along each axis, 4 to 48.
@@ -119,15 +121,15 @@ pub struct Totals {
     pub motion: i64,
 }
 
-/// The values of a bath file's header.
+/// The values of a bath file's header, as wide as [`Settings`] has them.
 #[derive(Clone, Copy, Debug, PartialEq, Eq, Hash)]
 pub struct Header {
     /// Nodes along each axis.
     pub size: Size,
     /// Gravity on the x axis.
-    pub gx: i16,
+    pub gx: i64,
     /// Gravity on the y axis.
-    pub gy: i16,
+    pub gy: i64,
     /// Number of records, at most 4096.
     pub count: usize,
     /// Number of steps wanted, at most 10,000.
@@ -140,8 +142,8 @@ impl Header {
     pub fn settings(&self) -> Settings {
         Settings {
             size: self.size,
-            gx: self.gx.into(),
-            gy: self.gy.into(),
+            gx: self.gx,
+            gy: self.gy,
         }
     }
 }
@@ -173,6 +175,13 @@ fn field<T: TryFrom<i64>>(value: i64) -> T {
 
 /// Reads a record.
 ///
+/// ```
+/// let record = [0x00, 0x07, 0x00, 0x81, 0x00, 0x10, 0x01, 0xFE, 0, 0, 0, 0, 0, 0];
+/// let p = engine::read_record(&record)?;
+/// assert_eq!((p.identifier, p.mass, p.x, p.y, p.vx, p.vy), (7, 2, 64, 64, 3, -2));
+/// # Ok::<(), engine::Refusal>(())
+/// ```
+///
 /// # Errors
 ///
 /// 1 length not 14; 4 mass zero; 5 a velocity of −64; 6 a B entry of −2048.
@@ -185,16 +194,27 @@ pub fn read_record(bytes: &[u8]) -> Result<Particle, Refusal> {
         mass: field(mass),
         x: field(x),
         y: field(y),
-        vx: field(vx),
-        vy: field(vy),
-        bxx: field(bxx),
-        bxy: field(bxy),
-        byx: field(byx),
-        byy: field(byy),
+        vx,
+        vy,
+        bxx,
+        bxy,
+        byx,
+        byy,
     })
 }
 
 /// Writes a record into the buffer.
+///
+/// ```
+/// use engine::{write_record, Limit, Particle, RECORD_LENGTH};
+///
+/// let mut record = [0; RECORD_LENGTH];
+/// let particle = Particle { identifier: 7, mass: 65_537, x: 64, y: 64, ..Particle::default() };
+/// let refusal = write_record(&particle, &mut record).expect_err("a mass above 1023");
+/// assert_eq!(refusal.limit, Limit::Mass);
+/// write_record(&Particle { mass: 1, ..particle }, &mut record)?;
+/// # Ok::<(), engine::Refusal>(())
+/// ```
 ///
 /// # Errors
 ///
@@ -206,14 +226,27 @@ pub fn write_record(particle: &Particle, bytes: &mut [u8]) -> Result<(), Refusal
 
 /// Checks a set: the number of its records.
 ///
+/// ```
+/// use engine::{check_set, write_record, Limit, Particle, Size, RECORD_LENGTH};
+///
+/// let particle = Particle { identifier: 7, mass: 1, x: 64, y: 64, ..Particle::default() };
+/// let mut set = [0; 2 * RECORD_LENGTH];
+/// let (first, second) = set.split_at_mut(RECORD_LENGTH);
+/// write_record(&particle, first)?;
+/// write_record(&particle, second)?;
+/// let refusal = check_set(Size { nx: 4, ny: 4 }, &set).expect_err("the same identifier twice");
+/// assert_eq!((refusal.limit, refusal.place), (Limit::Identifier, 1));
+/// # Ok::<(), engine::Refusal>(())
+/// ```
+///
 /// # Errors
 ///
 /// 2; 1 length not a multiple of 14 or above 57,344; then for each record 4, 5, 6, 7 off the grid, 8,
 /// 9.
 pub fn check_set(size: Size, records: &[u8]) -> Result<usize, Refusal> {
-    let mut count = [0];
+    let mut count = 0;
     Refusal::check(PROVED.check_set(size, records, &mut count))?;
-    Ok(count[0] as usize)
+    Ok(count as usize)
 }
 
 /// Totals of a set.
@@ -236,6 +269,10 @@ pub fn totals(size: Size, records: &[u8]) -> Result<Totals, Refusal> {
 
 /// The weights of the lower, the nearest and the upper node of one axis for a particle at offset q
 /// from its nearest node. They total 8192.
+///
+/// ```
+/// assert_eq!(engine::weights(-32), Ok([4096, 4096, 0]));
+/// ```
 ///
 /// # Errors
 ///
@@ -275,7 +312,29 @@ pub fn gather(size: Size, records: &mut [u8], x: &[i64], y: &[i64]) -> Result<()
     Refusal::check(PROVED.gather(size, records, x, y))
 }
 
-/// One step: scatter, update, gather.
+/// One step: [`scatter`], [`update`], [`gather`].
+///
+/// ```
+/// use engine::{gather, scatter, step, update, write_record, GridBuffers, Particle, Settings, Size};
+///
+/// let particle = Particle { identifier: 1, mass: 1, x: 64, y: 64, ..Particle::default() };
+/// let mut records = [0; engine::RECORD_LENGTH];
+/// write_record(&particle, &mut records)?;
+/// let mut same = records;
+///
+/// let size = Size { nx: 4, ny: 4 };
+/// let settings = Settings { size, gx: 128, gy: 0 };
+/// let (mut mass, mut x, mut y) = ([0; 16], [0; 16], [0; 16]);
+/// let mut grid = GridBuffers { mass: &mut mass, x: &mut x, y: &mut y };
+/// step(settings, &mut records, &mut grid)?;
+///
+/// scatter(size, &same, &mut grid)?;
+/// update(settings, &mut grid)?;
+/// gather(size, &mut same, grid.x, grid.y)?;
+/// assert_eq!(records, same);
+/// assert_eq!(engine::read_record(&records)?.vx, 1);
+/// # Ok::<(), engine::Refusal>(())
+/// ```
 ///
 /// # Errors
 ///
@@ -291,21 +350,46 @@ pub fn step(settings: Settings, records: &mut [u8], grid: &mut GridBuffers) -> R
 /// 13, 14, 15 of the step that stopped the run. Then the records are those of the last completed
 /// step, and the grid holds masses and updated velocities of the last step tried. A run of 0 steps
 /// touches nothing.
+///
+/// ```
+/// use engine::{read_record, run, write_record, GridBuffers, Limit, Particle, Settings, Size};
+///
+/// let particle = Particle { identifier: 7, mass: 2, x: 150, y: 64, vx: 4, ..Particle::default() };
+/// let mut records = [0; engine::RECORD_LENGTH];
+/// write_record(&particle, &mut records)?;
+///
+/// let settings = Settings { size: Size { nx: 4, ny: 4 }, gx: 0, gy: 0 };
+/// let (mut mass, mut x, mut y) = ([0; 16], [0; 16], [0; 16]);
+/// let mut grid = GridBuffers { mass: &mut mass, x: &mut x, y: &mut y };
+/// let answer = run(settings, 1000, &mut records, &mut grid);
+/// let refusal = answer.refusal.expect("the particle leaves the grid");
+/// assert_eq!((answer.completed, refusal.limit), (2, Limit::NewPosition));
+/// assert_eq!(read_record(&records)?.x, 158);
+/// # Ok::<(), engine::Refusal>(())
+/// ```
 pub fn run(
     settings: Settings,
     steps: usize,
     records: &mut [u8],
     grid: &mut GridBuffers,
 ) -> RunAnswer {
-    let mut completed = [0];
+    let mut completed = 0;
     let code = PROVED.run(settings, steps, records, grid, &mut completed);
     RunAnswer {
-        completed: completed[0] as usize,
+        completed: completed as usize,
         refusal: Refusal::from_code(code),
     }
 }
 
 /// Reads a bath file: the header's values. The records lie from byte 9 on.
+///
+/// ```
+/// let header = engine::read_file(&[0x20, 0x60, 0x03, 0x3F, 0x00, 0x00, 0x00, 0x01, 0x40])?;
+/// assert_eq!((header.size.nx, header.size.ny), (8, 6));
+/// assert_eq!((header.gx, header.gy), (12, -256));
+/// assert_eq!((header.count, header.steps), (0, 10));
+/// # Ok::<(), engine::Refusal>(())
+/// ```
 ///
 /// # Errors
 ///
@@ -319,14 +403,24 @@ pub fn read_file(bytes: &[u8]) -> Result<Header, Refusal> {
             nx: field(nx),
             ny: field(ny),
         },
-        gx: field(gx),
-        gy: field(gy),
+        gx,
+        gy,
         count: field(count),
         steps: field(steps),
     })
 }
 
 /// Writes a bath file's header into the buffer, spare bits zero.
+///
+/// ```
+/// use engine::{read_file, write_header, Header, Size, HEADER_LENGTH};
+///
+/// let header = Header { size: Size { nx: 8, ny: 6 }, gx: 12, gy: -256, count: 0, steps: 10 };
+/// let mut file = [0; HEADER_LENGTH];
+/// write_header(&header, &mut file)?;
+/// assert_eq!(read_file(&file), Ok(header));
+/// # Ok::<(), engine::Refusal>(())
+/// ```
 ///
 /// # Errors
 ///

@@ -1,8 +1,8 @@
-//! The calls of `include/gondwize.h` on slices, with its numbers as answers.
+//! The calls of `include/gondwize.h` on slices, with its numbers as answers. A refused call leaves the
+//! values that it hands out as they were, but for the completed steps of a run.
 //!
-//! The safe functions of this crate call these; tests call them for what the safe ones rule out, such
-//! as a slice of values of the wrong length. A [`Library`] can be another one with the same calls.
-//! Only unsafe code can make one:
+//! The safe functions of this crate call these. A [`Library`] can be another one with the same calls;
+//! only unsafe code can make one:
 //!
 //! ```compile_fail,E0133
 //! use engine::library::{Functions, Library};
@@ -25,24 +25,24 @@ type MassesOut = *mut u64;
 #[derive(Clone, Copy)]
 #[allow(missing_docs, clippy::type_complexity)]
 pub struct Functions {
-    pub read_record: unsafe extern "C" fn(Bytes, usize, NumbersOut, usize) -> u64,
+    pub read_record: unsafe extern "C" fn(Bytes, usize, *mut [i64; 10]) -> u64,
     pub write_record: unsafe extern "C" fn(
         u16,
-        u16,
-        u16,
-        u16,
-        i16,
-        i16,
-        i16,
-        i16,
-        i16,
-        i16,
+        u64,
+        u64,
+        u64,
+        i64,
+        i64,
+        i64,
+        i64,
+        i64,
+        i64,
         BytesOut,
         usize,
     ) -> u64,
-    pub check_set: unsafe extern "C" fn(usize, usize, Bytes, usize, MassesOut, usize) -> u64,
-    pub totals: unsafe extern "C" fn(usize, usize, Bytes, usize, NumbersOut, usize) -> u64,
-    pub weights: unsafe extern "C" fn(i64, NumbersOut, usize) -> u64,
+    pub check_set: unsafe extern "C" fn(usize, usize, Bytes, usize, *mut u64) -> u64,
+    pub totals: unsafe extern "C" fn(usize, usize, Bytes, usize, *mut [i64; 5]) -> u64,
+    pub weights: unsafe extern "C" fn(i64, *mut [i64; 3]) -> u64,
     pub scatter: unsafe extern "C" fn(
         usize,
         usize,
@@ -97,12 +97,11 @@ pub struct Functions {
         usize,
         NumbersOut,
         usize,
-        MassesOut,
-        usize,
+        *mut u64,
     ) -> u64,
-    pub read_file: unsafe extern "C" fn(Bytes, usize, NumbersOut, usize) -> u64,
+    pub read_file: unsafe extern "C" fn(Bytes, usize, *mut [i64; 6]) -> u64,
     pub write_header:
-        unsafe extern "C" fn(usize, usize, i16, i16, usize, usize, BytesOut, usize) -> u64,
+        unsafe extern "C" fn(usize, usize, i64, i64, usize, usize, BytesOut, usize) -> u64,
 }
 
 /// A library whose functions may be called on any slices.
@@ -131,8 +130,9 @@ pub const PROVED: Library = {
     unsafe { Library::new(functions) }
 };
 
-// SAFETY, of every call below: the pointers are those of slices with their lengths, what is written to
-// is borrowed by itself, and [`Library::new`] was given functions that ask no more.
+// SAFETY, of every call below: the pointers are those of slices with their lengths and of arrays and
+// numbers, what is written to is borrowed by itself, and [`Library::new`] was given functions that ask
+// no more.
 impl Library {
     /// The library with these functions.
     ///
@@ -148,15 +148,8 @@ impl Library {
 
     /// Read a record: ten values.
     #[must_use]
-    pub fn read_record(&self, bytes: &[u8], values: &mut [i64]) -> u64 {
-        unsafe {
-            (self.functions.read_record)(
-                bytes.as_ptr(),
-                bytes.len(),
-                values.as_mut_ptr(),
-                values.len(),
-            )
-        }
+    pub fn read_record(&self, bytes: &[u8], values: &mut [i64; 10]) -> u64 {
+        unsafe { (self.functions.read_record)(bytes.as_ptr(), bytes.len(), values) }
     }
 
     /// Write a record.
@@ -180,40 +173,26 @@ impl Library {
         }
     }
 
-    /// Check a set: one value.
+    /// Check a set: the number of records.
     #[must_use]
-    pub fn check_set(&self, size: Size, records: &[u8], count: &mut [u64]) -> u64 {
+    pub fn check_set(&self, size: Size, records: &[u8], count: &mut u64) -> u64 {
         unsafe {
-            (self.functions.check_set)(
-                size.nx,
-                size.ny,
-                records.as_ptr(),
-                records.len(),
-                count.as_mut_ptr(),
-                count.len(),
-            )
+            (self.functions.check_set)(size.nx, size.ny, records.as_ptr(), records.len(), count)
         }
     }
 
     /// Totals: five values.
     #[must_use]
-    pub fn totals(&self, size: Size, records: &[u8], values: &mut [i64]) -> u64 {
+    pub fn totals(&self, size: Size, records: &[u8], values: &mut [i64; 5]) -> u64 {
         unsafe {
-            (self.functions.totals)(
-                size.nx,
-                size.ny,
-                records.as_ptr(),
-                records.len(),
-                values.as_mut_ptr(),
-                values.len(),
-            )
+            (self.functions.totals)(size.nx, size.ny, records.as_ptr(), records.len(), values)
         }
     }
 
     /// Weights: three values.
     #[must_use]
-    pub fn weights(&self, q: i64, values: &mut [i64]) -> u64 {
-        unsafe { (self.functions.weights)(q, values.as_mut_ptr(), values.len()) }
+    pub fn weights(&self, q: i64, values: &mut [i64; 3]) -> u64 {
+        unsafe { (self.functions.weights)(q, values) }
     }
 
     /// Scatter.
@@ -294,7 +273,7 @@ impl Library {
         }
     }
 
-    /// Run: one value.
+    /// Run: the number of completed steps, also where it is refused.
     #[must_use]
     pub fn run(
         &self,
@@ -302,7 +281,7 @@ impl Library {
         steps: usize,
         records: &mut [u8],
         grid: &mut GridBuffers,
-        completed: &mut [u64],
+        completed: &mut u64,
     ) -> u64 {
         let Settings { size, gx, gy } = settings;
         unsafe {
@@ -320,23 +299,15 @@ impl Library {
                 grid.x.len(),
                 grid.y.as_mut_ptr(),
                 grid.y.len(),
-                completed.as_mut_ptr(),
-                completed.len(),
+                completed,
             )
         }
     }
 
     /// Read a file: six values.
     #[must_use]
-    pub fn read_file(&self, bytes: &[u8], values: &mut [i64]) -> u64 {
-        unsafe {
-            (self.functions.read_file)(
-                bytes.as_ptr(),
-                bytes.len(),
-                values.as_mut_ptr(),
-                values.len(),
-            )
-        }
+    pub fn read_file(&self, bytes: &[u8], values: &mut [i64; 6]) -> u64 {
+        unsafe { (self.functions.read_file)(bytes.as_ptr(), bytes.len(), values) }
     }
 
     /// Write a header.

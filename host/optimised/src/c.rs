@@ -16,21 +16,35 @@ macro_rules! slice {
     };
 }
 
-/// For each function: its numbers, then its slices as pointers with lengths, in the header's order.
+/// For each function: its numbers, then its slices as pointers with lengths, then the values that it
+/// hands out as a pointer, in the header's order.
 macro_rules! exports {
-    ($($(#[$doc:meta])* $name:ident($($number:ident: $type:ty),*; $($slice:ident $length:ident: $kind:tt $element:ty),*);)*) => {
+    ($(
+        $(#[$doc:meta])*
+        $name:ident(
+            $($number:ident: $type:ty),*;
+            $($slice:ident $length:ident: $kind:tt $element:ty),*
+            $(; $out:ident: $values:ty)?
+        );
+    )*) => {
         $(
             $(#[$doc])*
             ///
             /// # Safety
             ///
-            /// Every pointer leads to as many elements as the length after it says, and what is
-            /// written to overlaps nothing else of the call.
+            /// Every pointer leads to as many elements as the length after it says, or to what its
+            /// type says, and what is written to overlaps nothing else of the call.
             #[allow(clippy::too_many_arguments)]
-            pub unsafe extern "C" fn $name($($number: $type,)* $($slice: pointer!($kind $element), $length: usize),*) -> u64 {
+            pub unsafe extern "C" fn $name(
+                $($number: $type,)*
+                $($slice: pointer!($kind $element), $length: usize,)*
+                $($out: *mut $values,)?
+            ) -> u64 {
                 // SAFETY: by what is asked of the caller.
                 $(let $slice = unsafe { slice!($kind $slice $length) };)*
-                crate::$name($($number,)* $($slice),*)
+                // SAFETY: as above.
+                $(let $out = unsafe { &mut *$out };)?
+                crate::$name($($number,)* $($slice,)* $($out,)?)
             }
         )*
     };
@@ -38,15 +52,15 @@ macro_rules! exports {
 
 exports! {
     /// Read a record.
-    read_record(; bytes bytes_length: read u8, values values_length: write i64);
+    read_record(; bytes bytes_length: read u8; values: [i64; 10]);
     /// Write a record.
-    write_record(identifier: u16, mass: u16, x: u16, y: u16, vx: i16, vy: i16, bxx: i16, bxy: i16, byx: i16, byy: i16; bytes bytes_length: write u8);
+    write_record(identifier: u16, mass: u64, x: u64, y: u64, vx: i64, vy: i64, bxx: i64, bxy: i64, byx: i64, byy: i64; bytes bytes_length: write u8);
     /// Check a set.
-    check_set(nx: usize, ny: usize; records records_length: read u8, count count_length: write u64);
+    check_set(nx: usize, ny: usize; records records_length: read u8; count: u64);
     /// Totals.
-    totals(nx: usize, ny: usize; records records_length: read u8, values values_length: write i64);
+    totals(nx: usize, ny: usize; records records_length: read u8; values: [i64; 5]);
     /// Weights.
-    weights(q: i64; values values_length: write i64);
+    weights(q: i64; ; values: [i64; 3]);
     /// Scatter.
     scatter(nx: usize, ny: usize; records records_length: read u8, mass mass_length: write u64, px px_length: write i64, py py_length: write i64);
     /// Update.
@@ -56,9 +70,9 @@ exports! {
     /// Step.
     step(nx: usize, ny: usize, gx: i64, gy: i64; records records_length: write u8, mass mass_length: write u64, px px_length: write i64, py py_length: write i64);
     /// Run.
-    run(nx: usize, ny: usize, gx: i64, gy: i64, steps: usize; records records_length: write u8, mass mass_length: write u64, px px_length: write i64, py py_length: write i64, completed completed_length: write u64);
+    run(nx: usize, ny: usize, gx: i64, gy: i64, steps: usize; records records_length: write u8, mass mass_length: write u64, px px_length: write i64, py py_length: write i64; completed: u64);
     /// Read a file.
-    read_file(; bytes bytes_length: read u8, values values_length: write i64);
+    read_file(; bytes bytes_length: read u8; values: [i64; 6]);
     /// Write a header.
-    write_header(nx: usize, ny: usize, gx: i16, gy: i16, count: usize, steps: usize; bytes bytes_length: write u8);
+    write_header(nx: usize, ny: usize, gx: i64, gy: i64, count: usize, steps: usize; bytes bytes_length: write u8);
 }

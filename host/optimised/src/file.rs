@@ -3,7 +3,7 @@
 use crate::particle::RECORD_LENGTH;
 use crate::set::{check_size, walk, MOST};
 use crate::update::check_gravity;
-use crate::{answer, refused, WRONG_OUTPUT};
+use crate::{answer, refused};
 
 /// Length of a header in bytes.
 const HEADER_LENGTH: usize = 9;
@@ -51,10 +51,7 @@ fn found(bytes: &[u8]) -> Result<[i64; 6], u64> {
 }
 
 /// Read a file: six values.
-pub fn read_file(bytes: &[u8], values: &mut [i64]) -> u64 {
-    let Ok(values) = <&mut [i64; 6]>::try_from(values) else {
-        return WRONG_OUTPUT;
-    };
+pub fn read_file(bytes: &[u8], values: &mut [i64; 6]) -> u64 {
     match found(bytes) {
         Ok(header) => {
             *values = header;
@@ -68,8 +65,8 @@ pub fn read_file(bytes: &[u8], values: &mut [i64]) -> u64 {
 fn written(
     nx: usize,
     ny: usize,
-    gx: i16,
-    gy: i16,
+    gx: i64,
+    gy: i64,
     count: usize,
     steps: usize,
     bytes: &mut [u8],
@@ -77,7 +74,7 @@ fn written(
     let Ok(header) = <&mut [u8; HEADER_LENGTH]>::try_from(bytes) else {
         return Err(refused(1, 0));
     };
-    check_values(nx, ny, gx.into(), gy.into(), count, steps)?;
+    check_values(nx, ny, gx, gy, count, steps)?;
     let first = (nx as u64) << 58
         | (ny as u64) << 52
         | (gx as u64 & 16_383) << 38
@@ -94,8 +91,8 @@ fn written(
 pub fn write_header(
     nx: usize,
     ny: usize,
-    gx: i16,
-    gy: i16,
+    gx: i64,
+    gy: i64,
     count: usize,
     steps: usize,
     bytes: &mut [u8],

@@ -24,9 +24,6 @@ pub use spline::weights;
 pub use transfer::{gather, scatter};
 pub use update::update;
 
-/// The answer where the slice for the values has another length than they.
-const WRONG_OUTPUT: u64 = u64::MAX;
-
 /// A refusal's number and place as one answer.
 const fn refused(number: u64, place: usize) -> u64 {
     number << 32 | place as u64

@@ -1,7 +1,7 @@
 //! A particle record: 14 bytes as two words, the first with identifier, mass, place and velocity,
 //! the second with B.
 
-use crate::{refused, WRONG_OUTPUT};
+use crate::refused;
 
 /// Length of a particle record in bytes.
 pub const RECORD_LENGTH: usize = 14;
@@ -81,10 +81,7 @@ impl Particle {
 }
 
 /// Read a record: ten values.
-pub fn read_record(bytes: &[u8], values: &mut [i64]) -> u64 {
-    let Ok(values) = <&mut [i64; 10]>::try_from(values) else {
-        return WRONG_OUTPUT;
-    };
+pub fn read_record(bytes: &[u8], values: &mut [i64; 10]) -> u64 {
     let Ok(record) = bytes.try_into() else {
         return refused(1, 0);
     };
@@ -111,15 +108,15 @@ pub fn read_record(bytes: &[u8], values: &mut [i64]) -> u64 {
 #[allow(clippy::too_many_arguments)]
 pub fn write_record(
     identifier: u16,
-    mass: u16,
-    x: u16,
-    y: u16,
-    vx: i16,
-    vy: i16,
-    bxx: i16,
-    bxy: i16,
-    byx: i16,
-    byy: i16,
+    mass: u64,
+    x: u64,
+    y: u64,
+    vx: i64,
+    vy: i64,
+    bxx: i64,
+    bxy: i64,
+    byx: i64,
+    byy: i64,
     bytes: &mut [u8],
 ) -> u64 {
     let Ok(record) = <&mut [u8; RECORD_LENGTH]>::try_from(bytes) else {
@@ -137,18 +134,17 @@ pub fn write_record(
     if x > 4095 || y > 4095 {
         return refused(7, 0);
     }
-    let (mass, x, y) = (mass as i32, x as i32, y as i32);
     Particle {
         identifier,
-        mass,
-        x,
-        y,
-        vx: vx.into(),
-        vy: vy.into(),
-        bxx: bxx.into(),
-        bxy: bxy.into(),
-        byx: byx.into(),
-        byy: byy.into(),
+        mass: mass as i32,
+        x: x as i32,
+        y: y as i32,
+        vx: vx as i32,
+        vy: vy as i32,
+        bxx: bxx as i32,
+        bxy: bxy as i32,
+        byx: byx as i32,
+        byy: byy as i32,
     }
     .pack(record);
     0

@@ -2,11 +2,11 @@
 
 use std::mem::MaybeUninit;
 
+use crate::refused;
 use crate::set::{check_length, check_size, pack, unpack, Room, MOST};
 use crate::spline::TABLE;
 use crate::transfer::{gather_all, scatter_all};
 use crate::update::{check_gravity, check_lengths, update_all};
-use crate::{refused, WRONG_OUTPUT};
 
 /// The completed steps, and the refusal if one stopped the run.
 #[allow(clippy::too_many_arguments)]
@@ -79,7 +79,7 @@ pub fn step(
     }
 }
 
-/// Run: one value, the number of completed steps.
+/// Run: the number of completed steps.
 #[allow(clippy::too_many_arguments)]
 pub fn run(
     nx: usize,
@@ -91,11 +91,8 @@ pub fn run(
     mass: &mut [u64],
     px: &mut [i64],
     py: &mut [i64],
-    completed: &mut [u64],
+    completed: &mut u64,
 ) -> u64 {
-    let [completed] = completed else {
-        return WRONG_OUTPUT;
-    };
     let (count, answer) = match ran(nx, ny, gx, gy, steps, records, mass, px, py) {
         Ok(count) => (count, 0),
         Err(stopped) => stopped,

@@ -1,6 +1,6 @@
 //! The quadratic B-spline along one axis.
 
-use crate::{refused, WRONG_OUTPUT};
+use crate::refused;
 
 /// The weights of the lower, the nearest and the upper node, a row for each offset from −32 on.
 pub type Table = [[u16; 3]; 64];
@@ -44,10 +44,7 @@ impl Place {
 }
 
 /// Weights: three values.
-pub fn weights(q: i64, values: &mut [i64]) -> u64 {
-    let Ok(values) = <&mut [i64; 3]>::try_from(values) else {
-        return WRONG_OUTPUT;
-    };
+pub fn weights(q: i64, values: &mut [i64; 3]) -> u64 {
     if !(-32..=31).contains(&q) {
         return refused(7, 0);
     }
