@@ -9,15 +9,16 @@ use reference::report::report;
 use reference::{Grid, Header, Particle, Settings, Size};
 use vectors::{cases, Answer, Buffers, Operation};
 
-/// Every vector whose numbers the engine's types hold.
+/// Every vector but the program's.
 #[test]
 fn vectors() {
     let mut compared = 0;
     for case in cases() {
-        let mut after = case.before.clone();
-        let Some(answer) = by_engine(case.operation, &mut after) else {
+        if case.operation == Operation::Program {
             continue;
-        };
+        }
+        let mut after = case.before.clone();
+        let answer = by_engine(case.operation, &mut after).expect("numbers that the engine takes");
         assert_eq!(answer, case.answer, "{}", case.name);
         assert!(after == case.after, "{}: buffers differ", case.name);
         compared += 1;

@@ -33,9 +33,12 @@
 //! A call needs up to 700 kB of stack. Where a thread has less, the process ends, as with any function
 //! that overflows its stack.
 
+#![deny(unsafe_code)]
 #![warn(missing_docs)]
 
+#[allow(unsafe_code)]
 pub mod ffi;
+#[allow(unsafe_code)]
 pub mod library;
 mod refusal;
 
