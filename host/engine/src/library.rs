@@ -139,9 +139,9 @@ impl Library {
     /// # Safety
     ///
     /// Each function takes any numbers and any contents where its pointers are as [`ffi`] asks. Of
-    /// memory that is not its own it reads and writes only what pointers and lengths cover, writes only
-    /// through `*mut` and only initialised elements, and keeps no pointer. It does not unwind, and
-    /// several threads may call it at the same time.
+    /// memory that is not its own it touches only what they lead to there, writes only through `*mut`
+    /// and only initialised elements, and keeps no pointer. It does not unwind, and several threads may
+    /// call it at the same time.
     pub const unsafe fn new(functions: Functions) -> Self {
         Library { functions }
     }
