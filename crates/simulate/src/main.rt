@@ -1,7 +1,11 @@
 // Reads a bath file from standard input, runs it and prints the report of document 01's "The program".
+// Standard error gets one line where the file is refused, or the input or the report fails; `run` answers with it.
+mod streams;
+
 use bath_file::FileRead;
 use bath_file::HEADER_LENGTH;
 use bath_file::Header;
+use libc::STDERR_FILENO;
 use libc::STDIN_FILENO;
 use libc::STDOUT_FILENO;
 use particles::Totalled;
@@ -10,6 +14,7 @@ use report::Outcome;
 use report::Reported;
 use simulation::Ran;
 use simulation::Settings;
+use streams::Input;
 ghost use Prim.Native.Nat.{_≤_};
 ghost use lib.ListN.{length};
 
@@ -113,10 +118,33 @@ fn tell_run(h: Header, file: &mut [u8], text: &mut [u8]) -> usize
     text_length(reported, text.len())
 }
 
+// Whether a report tells of a file that was refused.
+fn is_refused(text: &[u8]) -> bool {
+    0 < text.len() && text[0] == b'r'
+}
+
+// Writes the report, and a line to standard error where the file was refused or the report could not be written.
+fn deliver(text: &[u8]) {
+    if !streams::write_all(STDOUT_FILENO, text) {
+        streams::write_all(STDERR_FILENO, b"report could not be written in full\n");
+        return;
+    }
+    if is_refused(text) {
+        streams::write_all(STDERR_FILENO, text);
+    }
+}
+
+// Reads, runs and reports.
 fn serve(file: &mut [u8], text: &mut [u8]) {
-    let read = io::read_full(STDIN_FILENO, file);
-    let n = tell(&mut file[..read], text);
-    io::write_all(STDOUT_FILENO, &text[..n]);
+    match streams::read_all(STDIN_FILENO, file) {
+        Input::Failed => {
+            streams::write_all(STDERR_FILENO, b"input could not be read\n");
+        }
+        Input::Read(length) => {
+            let n = tell(&mut file[..length], text);
+            deliver(&text[..n]);
+        }
+    }
 }
 
 fn main() {

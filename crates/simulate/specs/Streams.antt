@@ -1,0 +1,11 @@
+-- What reading standard input comes to. Assumes nothing.
+use mathlib.Core.List.{List}
+use Prim.Native.Nat.{ℕ}
+use Rattle.io.specs.Counts.{Counts}
+use Rattle.simulate.specs.declared.streams.Input.{Input}
+use Rattle.simulate.specs.declared.streams.Input.the-variants as input
+
+-- what was read stands at the start of the buffer
+abbrev pub Held : Input → List ℕ → Type 0
+Held (input.Read n) buffer = Counts n buffer
+Held input.Failed buffer = Unit {0}
