@@ -8,11 +8,13 @@
 
 #include "gondwize.h"
 
-enum { MOST_BYTES = 9 + 14 * 4096, MOST_NODES = 48 * 48 };
+/* Exit statuses: the input or the report failed; the file is refused. */
+enum { FAILED_STREAM = 1, REFUSED_FILE = 2 };
 
-static uint8_t file[MOST_BYTES + 1];
-static uint64_t mass[MOST_NODES];
-static int64_t px[MOST_NODES], py[MOST_NODES];
+/* A byte more than the longest file has, so that a longer one is not taken for it. */
+static uint8_t file[GONDWIZE_MOST_FILE_LENGTH + 1];
+static uint64_t mass[GONDWIZE_MOST_GRID];
+static int64_t px[GONDWIZE_MOST_GRID], py[GONDWIZE_MOST_GRID];
 
 static void print_totals(size_t nx, size_t ny, const uint8_t *records, size_t length)
 {
@@ -33,14 +35,31 @@ static void print_records(const uint8_t *records, size_t length)
     }
 }
 
+/* The exit status, or that of a failure where a part of what was printed could not be written. */
+static int finished(int status)
+{
+    int failed = ferror(stdout);
+    if (fclose(stdout) == 0 && !failed)
+        return status;
+    fputs("gondwize: the report could not be written in full\n", stderr);
+    return FAILED_STREAM;
+}
+
 int main(void)
 {
     size_t length = fread(file, 1, sizeof file, stdin);
+    if (ferror(stdin)) {
+        fputs("gondwize: the input could not be read\n", stderr);
+        return FAILED_STREAM;
+    }
     int64_t header[GONDWIZE_HEADER_VALUES];
     uint64_t answer = gondwize_read_file(file, length, header);
     if (answer != 0) {
-        printf("refused %" PRIu32 " at %" PRIu32 "\n", GONDWIZE_NUMBER(answer), GONDWIZE_PLACE(answer));
-        return 0;
+        uint32_t number = GONDWIZE_NUMBER(answer), place = GONDWIZE_PLACE(answer);
+        printf("refused %" PRIu32 " at %" PRIu32 "\n", number, place);
+        fprintf(stderr, "gondwize: refused %" PRIu32 " at %" PRIu32 ": %s\n", number, place,
+                gondwize_refusal_text(number));
+        return finished(REFUSED_FILE);
     }
     size_t nx = (size_t)header[0], ny = (size_t)header[1], nodes = nx * ny;
     uint8_t *records = file + GONDWIZE_HEADER_LENGTH;
@@ -52,5 +71,5 @@ int main(void)
            GONDWIZE_NUMBER(answer), GONDWIZE_PLACE(answer));
     print_totals(nx, ny, records, bytes);
     print_records(records, bytes);
-    return 0;
+    return finished(0);
 }
