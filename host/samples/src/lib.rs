@@ -32,6 +32,8 @@ pub fn samples() -> Vec<Sample> {
         refused(),
         spreading(),
         leaving(),
+        thrown(),
+        falling(),
         full(),
     ]
 }
@@ -146,6 +148,43 @@ fn leaving() -> Sample {
     Sample {
         name: "leaving",
         file: bath_file(still(24, 24), 1_000, &particles),
+    }
+}
+
+/// A disc of particles around a place that move alike, but for some units and some turning.
+fn flock(seed: u64, count: usize, place: (i128, i128), velocity: (i128, i128)) -> Vec<Particle> {
+    let mut generator = Generator::new(seed);
+    disc(&mut generator, 120, count)
+        .into_iter()
+        .enumerate()
+        .map(|(k, (dx, dy))| {
+            let mass = generator.between(1, 900);
+            let mut about = |middle: i128| middle + generator.between(-2, 2);
+            let (vx, vy) = (about(velocity.0), about(velocity.1));
+            let b = std::array::from_fn(|_| generator.between(-90, 90));
+            Particle::at_rest(40 + 7 * k as u16, mass, place.0 + dx, place.1 + dy)
+                .moving(vx, vy)
+                .with_b(b)
+        })
+        .collect()
+}
+
+/// Thrown to the right and up on a wide grid, where gravity pulls to the left and down: it comes to the height of its
+/// start again.
+fn thrown() -> Sample {
+    let settings = Settings::new(Size::new(26, 11), -200, -260);
+    Sample {
+        name: "thrown",
+        file: bath_file(settings, 34, &flock(15, 90, (500, 260), (20, 16))),
+    }
+}
+
+/// Falls on a tall grid until a velocity would pass its limit.
+fn falling() -> Sample {
+    let settings = Settings::new(Size::new(9, 48), 60, -250);
+    Sample {
+        name: "falling",
+        file: bath_file(settings, 200, &flock(17, 70, (220, 2800), (1, 0))),
     }
 }
 

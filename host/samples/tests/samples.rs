@@ -71,6 +71,37 @@ fn leaving_stops_with_15() {
     assert!(!settings.size.holds(x, y));
 }
 
+/// Gravity on both axes, not the same, and a grid that is not square.
+fn is_skew(settings: Settings) -> bool {
+    let Settings { size, gx, gy } = settings;
+    size.nx != size.ny && gx != gy && gx != 0 && gy != 0
+}
+
+/// The mean of a number of each particle.
+fn mean(particles: &[Particle], number: fn(&Particle) -> i128) -> i128 {
+    particles.iter().map(number).sum::<i128>() / particles.len() as i128
+}
+
+#[test]
+fn thrown_comes_down() {
+    let (settings, before, after, answer) = run_sample("thrown");
+    assert!(is_skew(settings));
+    assert_eq!((answer.completed, answer.refusal), (34, None));
+    assert_eq!(kept(&after), kept(&before));
+    assert!(mean(&before, |p| p.vy) > 10 && mean(&after, |p| p.vy) < -10);
+    assert!(mean(&before, |p| p.vx) > 10 && mean(&after, |p| p.vx) < 0);
+}
+
+#[test]
+fn falling_stops_with_13() {
+    let (settings, before, after, answer) = run_sample("falling");
+    assert!(is_skew(settings));
+    assert_eq!(answer.refusal.map(|refusal| refusal.number), Some(13));
+    assert!((40..100).contains(&answer.completed));
+    assert_eq!(kept(&after), kept(&before));
+    assert!(after.iter().any(|p| p.vy == -63));
+}
+
 #[test]
 fn full_is_full() {
     let (settings, before, after, answer) = run_sample("full");
@@ -114,7 +145,7 @@ fn keeps_to_demand_3(name: &str) {
 
 #[test]
 fn runs_keep_to_demand_3() {
-    ["spreading", "leaving", "full"]
+    ["spreading", "leaving", "thrown", "falling", "full"]
         .into_iter()
         .for_each(keeps_to_demand_3);
 }
@@ -130,7 +161,9 @@ fn with_steps(file: &[u8], steps: i128) -> Vec<u8> {
 
 #[test]
 fn first_steps_by_literal_sums() {
-    for (name, steps) in [("spreading", 20), ("leaving", 20), ("full", 1)] {
+    let few = [("spreading", 20), ("leaving", 20), ("full", 1)];
+    let whole = [("thrown", 34), ("falling", 200)];
+    for (name, steps) in few.into_iter().chain(whole) {
         let file = with_steps(&sample(name).file, steps);
         let literal = program_by(Sums::Literal, &file);
         assert_eq!(program_by(Sums::Nearby, &file), literal);
