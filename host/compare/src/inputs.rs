@@ -417,6 +417,85 @@ pub fn read_file(numbers: &mut Generator) -> Call {
     (Operation::ReadFile, only(file))
 }
 
+/// Settings that a file holds, mostly with gravity weak enough for some steps.
+fn file_settings(numbers: &mut Generator, size: Size) -> Settings {
+    let strongest = numbers.one_of(&[0, 40, 300, 300, 1_000, 4_096]);
+    let gx = numbers.between(-strongest, strongest);
+    Settings::new(size, gx, numbers.between(-strongest, strongest))
+}
+
+/// The bytes of a file whose header tells of its records.
+fn file_of(settings: Settings, steps: i128, records: &[u8]) -> Vec<u8> {
+    let header = Header {
+        settings,
+        count: (records.len() / 14) as i128,
+        steps,
+    };
+    [&header.pack(0)[..], records].concat()
+}
+
+/// A file with as many records as one can have or some fewer, and often bytes beyond them.
+fn long_file(numbers: &mut Generator) -> Vec<u8> {
+    let count = numbers.one_of(&[4_096, 4_096, 4_095, 3_000]);
+    let (size, records) = full_set(numbers, count as usize);
+    let steps = numbers.between(0, 1);
+    let mut file = file_of(file_settings(numbers, size), steps, &records);
+    let more = numbers.one_of(&[0, 0, 1, 2, 14, 15, 9_000, 70_000]);
+    file.extend(any_bytes(numbers, more as usize));
+    file
+}
+
+/// A heavy particle that turns and stretches as much as one can, and a light one that comes near it: a new B entry often
+/// stops the run after some steps.
+fn approach(numbers: &mut Generator) -> Vec<u8> {
+    let size = Size::new(numbers.between(12, 20), numbers.between(9, 20));
+    let b = std::array::from_fn(|_| numbers.one_of(&[-2_047, 0, 2_047]));
+    let heavy = Particle::at_rest(3, 1_000, 600, 260).with_b(b);
+    let light = Particle::at_rest(
+        5,
+        numbers.between(1, 200),
+        300,
+        260 + numbers.between(-99, 99),
+    )
+    .moving(numbers.between(5, 30), 0);
+    let (gx, gy) = (numbers.between(-90, -1), numbers.between(1, 90));
+    file_of(
+        Settings::new(size, gx, gy),
+        60,
+        &pack_records(&[heavy, light]),
+    )
+}
+
+/// A bath file for the program: runs that complete and runs that stop, on grids of any shape; one in three as for read a
+/// file, one in ten broken and one in ten damaged, one in a hundred long.
+pub fn bath_file(numbers: &mut Generator) -> Vec<u8> {
+    match numbers.between(0, 99) {
+        0 => return long_file(numbers),
+        1..=3 => return approach(numbers),
+        4..=36 => return read_file(numbers).1.bytes,
+        _ => {}
+    }
+    let size = Size::new(numbers.between(4, 16), numbers.between(4, 16));
+    let count = numbers.one_of(&[0, 1, 2, 3, 8, 20]) as usize;
+    let (v, b) = (
+        numbers.one_of(&[0, 2, 20]),
+        numbers.one_of(&[0, 100, 2_047]),
+    );
+    let mut set = numbers.particles(size, count, v, b);
+    if numbers.once_in(60) {
+        set = heavy(numbers, size);
+    } else if numbers.once_in(10) {
+        break_set(numbers, size, &mut set);
+    }
+    let steps = numbers.one_of(&[0, 1, 2, 5, 12, 40]);
+    let settings = file_settings(numbers, size);
+    let mut file = file_of(settings, steps, &pack_records(&set));
+    if numbers.once_in(10) {
+        damage(numbers, &mut file);
+    }
+    file
+}
+
 /// Write a header.
 pub fn write_header(numbers: &mut Generator) -> Call {
     let size = size(numbers);
