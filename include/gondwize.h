@@ -94,20 +94,20 @@
  * nx * ny. A position is off the grid, or, in writing a record, above 4095.
  */
 #define GONDWIZE_REFUSALS(X) \
-    X(1, LENGTH, "a slice has the wrong length") \
+    X(1, LENGTH, "a record, a set, a grid buffer or a file has the wrong length") \
     X(2, GRID_SIZE, "nx or ny is not 4 to 48") \
     X(3, COUNT, "the count is above 4096") \
     X(4, MASS, "a mass is not 1 to 1023") \
-    X(5, VELOCITY, "a velocity is beyond 63 or -63") \
-    X(6, AFFINE, "an entry of B is beyond 2047 or -2047") \
+    X(5, VELOCITY, "a velocity is not -63 to 63") \
+    X(6, AFFINE, "an entry of B is not -2047 to 2047") \
     X(7, POSITION, "a position is off the grid, or an offset is not -32 to 31") \
     X(8, IDENTIFIER, "an identifier is not above the one before") \
     X(9, TOTAL_MASS, "the mass so far is above 131072") \
-    X(10, GRAVITY, "gravity is beyond 4096 or -4096") \
+    X(10, GRAVITY, "gravity is not -4096 to 4096") \
     X(11, NODE_MASS, "a node's mass is above 2^43, or 0 with a momentum") \
-    X(12, NODE_VELOCITY, "a node's velocity is beyond 131072 or -131072") \
-    X(13, NEW_VELOCITY, "a new velocity is beyond 63 or -63") \
-    X(14, NEW_AFFINE, "a new entry of B is beyond 2047 or -2047") \
+    X(12, NODE_VELOCITY, "a node's velocity is not -131072 to 131072") \
+    X(13, NEW_VELOCITY, "a new velocity is not -63 to 63") \
+    X(14, NEW_AFFINE, "a new entry of B is not -2047 to 2047") \
     X(15, NEW_POSITION, "a new position is off the grid") \
     X(16, SPARE_BITS, "a file's spare bits are not zero") \
     X(17, STEPS, "more than 10000 steps")

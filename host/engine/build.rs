@@ -7,7 +7,7 @@ use std::path::{Path, PathBuf};
 use std::time::SystemTime;
 
 /// The crate whose functions the library has.
-const LIBRARY: &str = "exports";
+const LIBRARY: &str = "gondwize";
 
 /// The folders of a crate that are proved and compiled.
 const PARTS: [&str; 3] = ["src", "specs", "proofs"];

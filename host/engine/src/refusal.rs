@@ -29,23 +29,23 @@ macro_rules! limits {
 }
 
 limits! {
-    1 Length "a slice has the wrong length",
+    1 Length "a record, a set, a grid buffer or a file has the wrong length",
     2 GridSize "nx or ny is not 4 to 48",
-    3 Count "a file's count is above 4096",
+    3 Count "the count is above 4096",
     4 Mass "a mass is not 1 to 1023",
-    5 Velocity "a velocity is beyond +-63",
-    6 Affine "an entry of B is beyond +-2047",
+    5 Velocity "a velocity is not -63 to 63",
+    6 Affine "an entry of B is not -2047 to 2047",
     7 Position "a position is off the grid, or an offset is not -32 to 31",
     8 Identifier "an identifier is not above the one before",
-    9 TotalMass "the mass so far is above 131,072",
-    10 Gravity "gravity is beyond +-4096",
+    9 TotalMass "the mass so far is above 131072",
+    10 Gravity "gravity is not -4096 to 4096",
     11 NodeMass "a node's mass is above 2^43, or 0 with a momentum",
-    12 NodeVelocity "a node's velocity is beyond +-131,072",
-    13 NewVelocity "a new velocity is beyond +-63",
-    14 NewAffine "a new entry of B is beyond +-2047",
+    12 NodeVelocity "a node's velocity is not -131072 to 131072",
+    13 NewVelocity "a new velocity is not -63 to 63",
+    14 NewAffine "a new entry of B is not -2047 to 2047",
     15 NewPosition "a new position is off the grid",
     16 SpareBits "a file's spare bits are not zero",
-    17 Steps "more than 10,000 steps",
+    17 Steps "more than 10000 steps",
 }
 
 impl Limit {
