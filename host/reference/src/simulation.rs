@@ -7,6 +7,7 @@ use crate::refusal::{require, Refusal, NEW_PLACE, NEW_VELOCITY, STEPS};
 use crate::transfer::{gather_by, scatter_by, update, Sums};
 
 /// The answer of a run: steps completed, and the first refusal if one stopped it.
+#[must_use]
 #[derive(Clone, Copy, Debug, PartialEq, Eq, Hash)]
 pub struct RunAnswer {
     /// Number of completed steps.

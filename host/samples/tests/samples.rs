@@ -135,7 +135,8 @@ fn keeps_to_demand_3(name: &str) {
         let mut one_step = Ledger::new(&now);
         one_step.count_step(&now, settings);
         ledger.count_step(&now, settings);
-        run_by(Sums::Nearby, settings, 1, &mut records, &mut grid.buffers());
+        let one = run_by(Sums::Nearby, settings, 1, &mut records, &mut grid.buffers());
+        assert_eq!((one.completed, one.refusal), (1, None));
         now = particles(settings.size, &records).unwrap();
         one_step.check(&now).unwrap();
         ledger.check(&now).unwrap();
