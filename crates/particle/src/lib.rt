@@ -38,8 +38,8 @@ pub enum Written {
     Refused(Refusal),
 }
 
-// The particle that a record of the right length holds, valid or not: two words of eight bytes, and the fields from them. Whoever
-// reads a record of that length calls it.
+// The particle that a record of the right length holds, valid or not: two words of eight bytes, and the fields from them. The
+// record reader calls it, and so does whoever reads a record of an accepted set.
 pub fn unpack(bytes: &[u8]) -> Particle
     requires { ⌜ length (now bytes) ≡ recordLength ⌝ }
     ensures { λ r. ⌜ r ≡ particleOf (now (bytes .entry)) ⌝ }
@@ -60,8 +60,8 @@ pub fn unpack(bytes: &[u8]) -> Particle
     }
 }
 
-// The answer for a particle that was read from the record with this index. The walk over a set calls it too.
-pub fn accept(p: Particle, index: usize) -> Read
+// The answer for a particle that was read from the record with this index. `read_indexed` calls it.
+fn accept(p: Particle, index: usize) -> Read
     ensures { λ r. ⌜ toldRead r ≡ readParticle index p ⌝ }
 {
     if p.mass == limits::NO_MASS {
@@ -79,14 +79,22 @@ pub fn accept(p: Particle, index: usize) -> Read
     Read::Found(p)
 }
 
-// Read a record: any slice.
-pub fn read_record(bytes: &[u8]) -> Read
-    ensures { λ r. ⌜ toldRead r ≡ readAnswer 0 (now (bytes .entry)) ⌝ }
+// The record reader: any slice, as the record with this index of its set. The walks over a set hand it the part that starts at
+// the record's place.
+pub fn read_indexed(bytes: &[u8], index: usize) -> Read
+    ensures { λ r. ⌜ toldRead r ≡ readAnswer index (now (bytes .entry)) ⌝ }
 {
     if bytes.len() != RECORD_LENGTH {
         return Read::Refused(Refusal::Length);
     }
-    accept(unpack(bytes), 0)
+    accept(unpack(bytes), index)
+}
+
+// Read a record: any slice.
+pub fn read_record(bytes: &[u8]) -> Read
+    ensures { λ r. ⌜ toldRead r ≡ readAnswer 0 (now (bytes .entry)) ⌝ }
+{
+    read_indexed(bytes, 0)
 }
 
 // The answer for a particle that is to be written.

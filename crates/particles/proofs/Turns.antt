@@ -21,7 +21,7 @@ use Rattle.refusal.proofs.Answers.{same-result, not-refused, not-result, same-r
 use Rattle.particle.specs.declared.Particle.{Particle}
 use Rattle.particle.specs.declared.Read.{Read}
 use Rattle.particle.specs.declared.Read.the-variants as read
-use Rattle.particle.specs.Record.{particleOf, readParticle, readAnswer, toldRead}
+use Rattle.particle.specs.Record.{readAnswer, toldRead}
 use Rattle.particles.specs.declared.Totals.{Totals}
 use Rattle.particles.specs.declared.Entry.{Entry}
 use Rattle.particles.specs.declared.Entered.{Entered}
@@ -31,7 +31,7 @@ use Rattle.particles.specs.declared.Next.{Next}
 use Rattle.particles.specs.declared.Next.the-variants as next
 use Rattle.particles.specs.Set.{recordAt, admitted, setFrom, setOf, totalsOf}
 use Rattle.particles.specs.Walk.{followed, toldEntered, enterAnswer, enterRecord, counted, share, plus, Small, SmallNext, advanced, toldNext, nextRecord, walked}
-use Rattle.particles.proofs.Checks.{admitted-facts, record-long, read-long, counted as all-counted}
+use Rattle.particles.proofs.Checks.{admitted-facts, counted as all-counted}
 
 -- the part that the reader is handed is the record
 part-is : (start k : ℕ) (bytes : List ℕ) → take (start + 14 * k + 14 - (start + 14 * k)) (drop (start + 14 * k) bytes) ≡ recordAt start bytes k
@@ -40,12 +40,9 @@ part-is start k bytes = ap (λ n. take n (drop (start + 14 * k) bytes)) (room (s
     room : (a : ℕ) → a + 14 - a ≡ 14
     room a = omega arith
 
-module _ {S : Type 0} (start k : ℕ) (bytes : List ℕ) (next : Particle → Answer S) (p : Particle) (r : Read) (there : start + 14 * k + 14 ≤ length bytes) (unpacked : p ≡ particleOf (take (start + 14 * k + 14 - (start + 14 * k)) (drop (start + 14 * k) bytes))) (answer : toldRead r ≡ readParticle k p) where
+module _ {S : Type 0} (start k : ℕ) (bytes : List ℕ) (next : Particle → Answer S) (r : Read) (answer : toldRead r ≡ readAnswer k (take (start + 14 * k + 14 - (start + 14 * k)) (drop (start + 14 * k) bytes))) where
   is-record : toldRead r ≡ readAnswer k (recordAt start bytes k)
-  is-record =
-      answer
-      ∙ ap (readParticle k) (unpacked ∙ ap particleOf (part-is start k bytes))
-      ∙ sym (read-long k (recordAt start bytes k) (record-long start bytes k there))
+  is-record = answer ∙ ap (readAnswer k) (part-is start k bytes)
 
   pub found : {q : Particle} {a : Answer S} → r ≡ read.Found q → a ≡ next q → a ≡ andThen (readAnswer k (recordAt start bytes k)) next
   found e h = h ∙ ap (λ b. andThen b next) (ap toldRead (sym e) ∙ is-record)

@@ -177,7 +177,7 @@ fn enter_record(nx: usize, ny: usize, bytes: &[u8], start: usize, k: usize, entr
     ensures { λ r. ⌜ toldEntered r ≡ enterRecord nx ny start (now (bytes .entry)) k entry ⌝ }
 {
     let at = start + RECORD_LENGTH * k;
-    match particle::accept(particle::unpack(&bytes[at..at + RECORD_LENGTH]), k) {
+    match particle::read_indexed(&bytes[at..at + RECORD_LENGTH], k) {
         Read::Found(p) => enter(p, k, nx, ny, entry),
         Read::Refused(refusal) => Entered::Refused(refusal),
     }
@@ -237,7 +237,7 @@ fn next_record(
     ensures { λ r. ⌜ (toldNext r ≡ nextRecord nx ny start (now (bytes .entry)) k progress) × SmallNext (k + 1) r ⌝ }
 {
     let at = start + RECORD_LENGTH * k;
-    match particle::accept(particle::unpack(&bytes[at..at + RECORD_LENGTH]), k) {
+    match particle::read_indexed(&bytes[at..at + RECORD_LENGTH], k) {
         Read::Found(p) => admit(p, k, nx, ny, progress),
         Read::Refused(refusal) => Next::Refused(refusal),
     }

@@ -1,38 +1,46 @@
--- The table of weights: one test that the checker computes over its 64 rows, and what it gives at each offset.
---     RowFacts      at row k, for q = k − 32: the numbers are the formulas' values, total 8192, and have moments 0 and 8192·1024
---     row-facts     the test turned into these facts
---     table-row     what stands at row k
+-- The table of weights: what a table that passes the test of specs/Test.antt gives at each offset.
+--     RowFacts       at offset q: the weights are natural numbers, total 8192, and have moments 0 and 8192·1024
+--     RowPassed      a row that passes holds the formulas' values, and its offset has these facts
+--     passed-table   a table that passes is the table of the formulas' values
+--     passed-facts   and each of its 64 offsets has the facts
+--     row-facts      so the facts hold, since `table` passes; that the constant passes is the contract of `tested_table`
+--     table-row      what stands at row k
 -- Assumes nothing.
 use mathlib.Core.Path.{_≡_, refl, sym, ap, subst, _∙_}
-use mathlib.Core.Bool.{Bool, true, false, _&&_}
 use mathlib.Core.List.{List, [], _∷_, map}
 use Prim.Native.Nat.{ℕ, zero, suc, _+_, _<_}
 use native.Mathlib.Nat.{zero-add, add-suc, suc-add, add-zero, le-of-suc-le-suc, not-suc-le-zero}
 use native.Mathlib.Omega.{arith}
 use lib.Dec.{T, eqb, eqb→eq}
 use lib.ListN.{length, getD}
-use lib.IntN.{ℤ, pos, negsuc, negℤ, natAbs, _+ℤ_, _-ℤ_, _*ℤ_}
+use lib.IntN.{ℤ, pos, negsuc, natAbs, _+ℤ_, _-ℤ_, _*ℤ_}
 use mir.Facts.{and-yes}
-use Rattle.arith.specs.Sums.{from, upTo}
+use Rattle.arith.specs.Sums.{from}
 use Rattle.spline.specs.Spline.{lowerWeight, nearestWeight, upperWeight}
 use Rattle.spline.specs.Answers.{table, tableRow}
+use Rattle.spline.specs.Test.{sameℤ, allSame, momentOf, claims, rowPasses, passesFrom, passes}
 
-abbrev eqZ : ℤ → ℤ → Bool
-eqZ (pos a) (pos b) = eqb a b
-eqZ (pos a) (negsuc b) = false
-eqZ (negsuc a) (pos b) = false
-eqZ (negsuc a) (negsuc b) = eqb a b
+-- ---- one row
 
-eqZ→eq : (a b : ℤ) → T (eqZ a b) → a ≡ b
-eqZ→eq (pos a) (pos b) t = ap pos (eqb→eq a b t)
-eqZ→eq (pos a) (negsuc b) t = absurd t
-eqZ→eq (negsuc a) (pos b) t = absurd t
-eqZ→eq (negsuc a) (negsuc b) t = ap negsuc (eqb→eq a b t)
+same-is : (a b : ℤ) → T (sameℤ a b) → a ≡ b
+same-is (pos a) (pos b) t = ap pos (eqb→eq a b t)
+same-is (pos a) (negsuc b) t = absurd t
+same-is (negsuc a) (pos b) t = absurd t
+same-is (negsuc a) (negsuc b) t = ap negsuc (eqb→eq a b t)
 
--- f, with each displacement's value at the three nodes
+abbrev Hold : List (ℤ × ℤ) → Type 0
+Hold [] = Unit {0}
+Hold (c ∷ cs) = (c .0 ≡ c .1) × Hold cs
+
+all-hold : (cs : List (ℤ × ℤ)) → T (allSame cs) → Hold cs
+all-hold [] t = tt
+all-hold (c ∷ cs) t =
+    let both = and-yes (sameℤ (c .0) (c .1)) (allSame cs) t in
+    (same-is (c .0) (c .1) (both .0), all-hold cs (both .1))
+
+-- the sum of the formulas' weights at offset q, each times f of its node minus the particle
 abbrev pub moment : ℤ → (ℤ → ℤ) → ℤ
-moment q f =
-    lowerWeight q *ℤ f (negsuc 63 -ℤ q) +ℤ nearestWeight q *ℤ f (negℤ q) +ℤ upperWeight q *ℤ f (pos 64 -ℤ q)
+moment q f = momentOf q (lowerWeight q) (nearestWeight q) (upperWeight q) f
 
 pub record RowFacts (q : ℤ) : Type 0 where
   pub lower : pos (natAbs (lowerWeight q)) ≡ lowerWeight q
@@ -42,63 +50,83 @@ pub record RowFacts (q : ℤ) : Type 0 where
   pub first : moment q (λ d. d) ≡ pos 0
   pub second : moment q (λ d. d *ℤ d) ≡ pos 8192 *ℤ pos 1024
 
--- the facts of a row, as pairs of numbers that the test compares
-abbrev claims : ℤ → List (ℤ × ℤ)
-claims q =
-    (pos (natAbs (lowerWeight q)), lowerWeight q)
-    ∷ (pos (natAbs (nearestWeight q)), nearestWeight q)
-    ∷ (pos (natAbs (upperWeight q)), upperWeight q)
-    ∷ (lowerWeight q +ℤ nearestWeight q +ℤ upperWeight q, pos 8192)
-    ∷ (moment q (λ d. d), pos 0)
-    ∷ (moment q (λ d. d *ℤ d), pos 8192 *ℤ pos 1024)
-    ∷ []
+pub record RowPassed (q : ℤ) (row : List ℕ) : Type 0 where
+  pub is : row ≡ tableRow q
+  pub facts : RowFacts q
 
-abbrev compared : List (ℤ × ℤ) → Bool
-compared [] = true
-compared (c ∷ cs) = eqZ (c .0) (c .1) && compared cs
+-- a natural number that is z
+natural : (n : ℕ) (z : ℤ) → pos n ≡ z → pos (natAbs z) ≡ z
+natural n z e = subst (λ z. pos (natAbs z) ≡ z) e refl
 
-abbrev Hold : List (ℤ × ℤ) → Type 0
-Hold [] = Unit {0}
-Hold (c ∷ cs) = (c .0 ≡ c .1) × Hold cs
-
-compared-hold : (cs : List (ℤ × ℤ)) → T (compared cs) → Hold cs
-compared-hold [] t = tt
-compared-hold (c ∷ cs) t =
-    let both = and-yes (eqZ (c .0) (c .1)) (compared cs) t in
-    (eqZ→eq (c .0) (c .1) (both .0), compared-hold cs (both .1))
-
-abbrev right : ℤ → Bool
-right q = compared (claims q)
-
-right-facts : (q : ℤ) → T (right q) → RowFacts q
-right-facts q t =
-    let h = compared-hold (claims q) t in
+three-numbers : (q : ℤ) (l n u : ℕ) → T (allSame (claims q (pos l) (pos n) (pos u))) → RowPassed q (l ∷ n ∷ u ∷ [])
+three-numbers q l n u t =
+    let h = all-hold (claims q (pos l) (pos n) (pos u)) t in
+    let lower = h .0 in
+    let nearest = h .1 .0 in
+    let upper = h .1 .1 .0 in
     record {
-      lower = h .0;
-      nearest = h .1 .0;
-      upper = h .1 .1 .0;
-      total = h .1 .1 .1 .0;
-      first = h .1 .1 .1 .1 .0;
-      second = h .1 .1 .1 .1 .1 .0;
+      is = λ i. natAbs (lower i) ∷ natAbs (nearest i) ∷ natAbs (upper i) ∷ [];
+      facts =
+          record {
+            lower = natural l (lowerWeight q) lower;
+            nearest = natural n (nearestWeight q) nearest;
+            upper = natural u (upperWeight q) upper;
+            total = sym (λ i. lower i +ℤ nearest i +ℤ upper i) ∙ h .1 .1 .1 .0;
+            first = sym (λ i. momentOf q (lower i) (nearest i) (upper i) (λ d. d)) ∙ h .1 .1 .1 .1 .0;
+            second = sym (λ i. momentOf q (lower i) (nearest i) (upper i) (λ d. d *ℤ d)) ∙ h .1 .1 .1 .1 .1 .0;
+          };
     }
 
--- the test passes at each number of a range
-abbrev every : (ℕ → Bool) → List ℕ → Bool
-every f [] = true
-every f (k ∷ ks) = f k && every f ks
+row-passed : (q : ℤ) (row : List ℕ) → T (rowPasses q row) → RowPassed q row
+row-passed q row t =
+    let both = and-yes (eqb (length row) 3) (allSame (claims q (pos (getD row 0 0)) (pos (getD row 1 0)) (pos (getD row 2 0)))) t in
+    subst (RowPassed q) (three-of row (eqb→eq (length row) 3 (both .0))) (three-numbers q (getD row 0 0) (getD row 1 0) (getD row 2 0) (both .1))
+  where
+    three-of : (l : List ℕ) → length l ≡ 3 → getD l 0 0 ∷ getD l 1 0 ∷ getD l 2 0 ∷ [] ≡ l
+    three-of [] e = absurd (omega arith)
+    three-of (a ∷ []) e = absurd (omega arith)
+    three-of (a ∷ b ∷ []) e = absurd (omega arith)
+    three-of (a ∷ b ∷ c ∷ []) e = refl
+    three-of (a ∷ b ∷ c ∷ d ∷ l) e = absurd (omega arith)
 
-every-at : (f : ℕ → Bool) (i n k : ℕ) → T (every f (from i n)) → k < n → T (f (i + k))
-every-at f i zero k t h = absurd (not-suc-le-zero h)
-every-at f i (suc n) zero t h = subst (λ m. T (f m)) (sym (add-zero i)) (and-yes (f i) (every f (from (suc i) n)) t .0)
-every-at f i (suc n) (suc k) t h =
-    subst (λ m. T (f m)) (suc-add i k ∙ sym (add-suc i k))
-    (every-at f (suc i) n k (and-yes (f i) (every f (from (suc i) n)) t .1) (le-of-suc-le-suc h))
+-- ---- all rows
 
-pub row-facts : (k : ℕ) → k < 64 → RowFacts (pos k -ℤ pos 32)
-row-facts k h =
-    right-facts (pos k -ℤ pos 32)
-    (subst (λ m. T (right (pos m -ℤ pos 32))) (zero-add k)
-    (every-at (λ m. right (pos m -ℤ pos 32)) 0 64 k tt h))
+abbrev offsetOf : ℕ → ℤ
+offsetOf k = pos k -ℤ pos 32
+
+-- rows from row i on
+from-passed : (rows : List (List ℕ)) (i : ℕ) → T (passesFrom i rows) → rows ≡ map (λ k. tableRow (offsetOf k)) (from i (length rows))
+from-passed [] i t = refl
+from-passed (row ∷ rows) i t =
+    let both = and-yes (rowPasses (offsetOf i) row) (passesFrom (suc i) rows) t in
+    λ j. row-passed (offsetOf i) row (both .0) .is j ∷ from-passed rows (suc i) (both .1) j
+
+facts-from : (rows : List (List ℕ)) (i k : ℕ) → T (passesFrom i rows) → k < length rows → RowFacts (offsetOf (i + k))
+facts-from [] i k t h = absurd (not-suc-le-zero h)
+facts-from (row ∷ rows) i zero t h =
+    let both = and-yes (rowPasses (offsetOf i) row) (passesFrom (suc i) rows) t in
+    subst (λ m. RowFacts (offsetOf m)) (sym (add-zero i)) (row-passed (offsetOf i) row (both .0) .facts)
+facts-from (row ∷ rows) i (suc k) t h =
+    let both = and-yes (rowPasses (offsetOf i) row) (passesFrom (suc i) rows) t in
+    subst (λ m. RowFacts (offsetOf m)) (suc-add i k ∙ sym (add-suc i k)) (facts-from rows (suc i) k (both .1) (le-of-suc-le-suc h))
+
+module _ (rows : List (List ℕ)) (t : T (passes rows)) where
+  both : T (eqb (length rows) 64) × T (passesFrom 0 rows)
+  both = and-yes (eqb (length rows) 64) (passesFrom 0 rows) t
+
+  long : length rows ≡ 64
+  long = eqb→eq (length rows) 64 (both .0)
+
+  pub passed-table : rows ≡ table
+  passed-table = from-passed rows 0 (both .1) ∙ ap (λ n. map (λ k. tableRow (offsetOf k)) (from 0 n)) long
+
+  pub passed-facts : (k : ℕ) → k < 64 → RowFacts (offsetOf k)
+  passed-facts k h = subst (λ m. RowFacts (offsetOf m)) (zero-add k) (facts-from rows 0 k (both .1) (subst (λ n. k < n) (sym long) h))
+
+-- ---- the table
+
+pub row-facts : (k : ℕ) → k < 64 → RowFacts (offsetOf k)
+row-facts k h = passed-facts table tt k h
 
 getD-tabulated : (f : ℕ → List ℕ) (i n k : ℕ) → k < n → getD (map f (from i n)) k [] ≡ f (i + k)
 getD-tabulated f i zero k h = absurd (not-suc-le-zero h)

@@ -1,3 +1,4 @@
 pub mod Spline
 pub mod Moments
+pub mod Test
 pub mod Answers

@@ -2,8 +2,10 @@
 ghost use mathlib.Core.Path.{_≡_};
 ghost use Prim.Native.Nat.{_<_};
 ghost use lib.ListN.{getD};
+ghost use lib.Dec.{T};
 ghost use mathlib.Core.List.{[]};
 ghost use Rattle.spline.specs.Answers.{toldWeights, weightsAnswer, rowOf, table};
+ghost use Rattle.spline.specs.Test.{passes};
 use refusal::Refusal;
 
 // The weights of the lower, the nearest and the upper node.
@@ -86,11 +88,18 @@ const WEIGHTS: [[u16; 3]; 64] = [
     [1, 4222, 3969],
 ];
 
+// The numbers as they stand above, which pass the test of the table. `weight_table` calls it.
+fn tested_table() -> [[u16; 3]; 64]
+    ensures { λ r. ⌜ T (passes r) ⌝ }
+{
+    WEIGHTS
+}
+
 // The table, for a caller that looks many weights up and lends it to `row`.
 pub fn weight_table() -> [[u16; 3]; 64]
     ensures { λ r. ⌜ r ≡ table ⌝ }
 {
-    WEIGHTS
+    tested_table()
 }
 
 // The row of an offset, counted from −32, in the table that the caller lends. The transfers call it.

@@ -11,23 +11,20 @@ mul-at c = search needs
 add-at : tie.Need-add-at
 add-at c = search needs
 
-add-unpack : tie.Need-add-unpack
-add-unpack c = search needs
+add-read-indexed : tie.Need-add-read-indexed
+add-read-indexed c = search needs
 
-sub-unpack : tie.Need-sub-unpack
-sub-unpack c = search needs
+sub-read-indexed : tie.Need-sub-read-indexed
+sub-read-indexed c = search needs
 
-part-unpack-start : tie.Need-part-unpack-start
-part-unpack-start c = search needs
+part-read-indexed-start : tie.Need-part-read-indexed-start
+part-read-indexed-start c = search needs
 
-part-unpack-end : tie.Need-part-unpack-end
-part-unpack-end c = search needs
+part-read-indexed-end : tie.Need-part-read-indexed-end
+part-read-indexed-end c = search needs
 
-unpack-requires : tie.Need-unpack-requires
-unpack-requires c κs = search needs
-
-accept-requires : tie.Need-accept-requires
-accept-requires c κs = search needs
+read-indexed-requires : tie.Need-read-indexed-requires
+read-indexed-requires c κs = search needs
 
 enum-known-p : tie.Need-enum-known-p
 enum-known-p c = search needs
@@ -40,11 +37,19 @@ enum-known-refusal c = search needs
 
 returns : tie.Need-returns
 returns c =
-    found (c .before .before .before .before .before .before .before .before .args .start) (c .before .before .before .before .before .before .before .before .args .k) (c .before .before .before .before .before .before .before .before .args .bytes .now) (λ q. enterAnswer (c .before .before .before .before .before .before .before .before .args .nx) (c .before .before .before .before .before .before .before .before .args .ny) (c .before .before .before .before .before .before .before .before .args .k) (c .before .before .before .before .before .before .before .before .args .entry) q) (c .before .before .before .before .before .unpack .result) (c .before .before .before .before .accept .result) (c .before .before .before .before .before .before .before .before .pre .2) (c .before .before .before .before .before .unpack .ensures) (c .before .before .before .before .accept .ensures) (c .before .before .p .given .1) (c .enter .ensures)
+    let s = c .before .before .before .before .before .before .before in
+    let read = c .before .before .before .before .read-indexed in
+    found (s .args .start) (s .args .k) (s .args .bytes .now)
+    (λ q. enterAnswer (s .args .nx) (s .args .ny) (s .args .k) (s .args .entry) q)
+    (read .result) (read .ensures) (c .before .before .p .given .1) (c .enter .ensures)
 
 returns-2 : tie.Need-returns-2
 returns-2 c =
-    not-found (c .before .before .before .before .before .before .before .args .start) (c .before .before .before .before .before .before .before .args .k) (c .before .before .before .before .before .before .before .args .bytes .now) (λ q. enterAnswer (c .before .before .before .before .before .before .before .args .nx) (c .before .before .before .before .before .before .before .args .ny) (c .before .before .before .before .before .before .before .args .k) (c .before .before .before .before .before .before .before .args .entry) q) (c .before .before .before .before .unpack .result) (c .before .before .before .accept .result) (c .before .before .before .before .before .before .before .pre .2) (c .before .before .before .before .unpack .ensures) (c .before .before .before .accept .ensures) _ (c .before .refusal .given .1)
+    let s = c .before .before .before .before .before .before in
+    let read = c .before .before .before .read-indexed in
+    not-found (s .args .start) (s .args .k) (s .args .bytes .now)
+    (λ q. enterAnswer (s .args .nx) (s .args .ny) (s .args .k) (s .args .entry) q)
+    (read .result) (read .ensures) _ (c .before .refusal .given .1)
 
 pub enter-record-spec : {M : Type 1} → statement M
 enter-record-spec =
@@ -52,12 +57,11 @@ enter-record-spec =
     (tie.spec
     mul-at
     add-at
-    add-unpack
-    sub-unpack
-    part-unpack-start
-    part-unpack-end
-    unpack-requires
-    accept-requires
+    add-read-indexed
+    sub-read-indexed
+    part-read-indexed-start
+    part-read-indexed-end
+    read-indexed-requires
     enum-known-p
     enter-requires
     enum-known-refusal

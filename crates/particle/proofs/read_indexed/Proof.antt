@@ -1,10 +1,10 @@
--- `read_record` meets its contract: the length, and then what `accept` answers of the particle that `unpack` finds. Assumes nothing.
+-- `read_indexed` meets its contract: the length, and then what `accept` answers of the particle that `unpack` finds. Assumes nothing.
 use borrow.Author.Needs.{needs}
 use borrow.Author.Tests.{eq-eqb, ne-eqb}
 use mathlib.Core.Path.{ap, _∙_}
 use Rattle.particle.specs.Record.{readAnswer, readParticle}
-use Rattle.particle.proofs.read_record.Statement.{statement}
-use Rattle.particle.proofs.read_record.Tie as tie
+use Rattle.particle.proofs.read_indexed.Statement.{statement}
+use Rattle.particle.proofs.read_indexed.Tie as tie
 
 returns : tie.Need-returns
 unfolding readAnswer
@@ -20,7 +20,7 @@ returns-2 : tie.Need-returns-2
 unfolding readAnswer
 returns-2 c =
     simp (eq-eqb _ _ (c .before .before .if1 .left))
-    (c .accept .ensures ∙ ap (readParticle 0) (c .before .unpack .ensures))
+    (c .accept .ensures ∙ ap (readParticle _) (c .before .unpack .ensures))
 
-pub read-record-spec : {M : Type 1} → statement M
-read-record-spec = tie.close (tie.spec returns unpack-requires accept-requires returns-2)
+pub read-indexed-spec : {M : Type 1} → statement M
+read-indexed-spec = tie.close (tie.spec returns unpack-requires accept-requires returns-2)
