@@ -2,6 +2,7 @@
 --     lent, given-back       the part behind the header as it is lent, and the file with other records there
 --     on-first               a run on the first nodes of grids
 --     text-by, prints        what the caller sees, by the file's answer
+--     text-within            the text is within its buffer
 --     file-sizes, file-long, report-ready
 --                            an accepted file can be run, and the records that the run leaves can be reported
 --     accepted-prints        then the caller sees what the definitions say
@@ -28,7 +29,8 @@ use Rattle.bath_file.specs.File.{fileAnswer}
 use Rattle.bath_file.proofs.Answers.{header-held}
 use Rattle.bath_file.proofs.Records.{file-held}
 use Rattle.report.specs.Lines.{refusedLine}
-use Rattle.program.specs.Program.{settingsOf, nodesOf, recordsIn, runOf, zeroGrids, reportOf, programText, printed, textAfter, fileAfter, gridsAfter, firstNodes, withFirst}
+use Rattle.program.specs.declared.Printed.{Printed}
+use Rattle.program.specs.Program.{settingsOf, nodesOf, recordsIn, runOf, zeroGrids, reportOf, runReport, programText, printed, textAfter, fileAfter, gridsAfter, firstNodes, withFirst}
 use Rattle.program.specs.Laws.{SameLengths}
 use Rattle.program.specs.Internal.{mostNodes, runFirst, Reportable, Begins, Accepted, Prints}
 use Rattle.program.proofs.Grids.{any-grids}
@@ -87,7 +89,7 @@ module _ (h : Header) {s : Settings} {n : ℕ} (settings : s ≡ settingsOf h) (
 
 module _ (bytes : List ℕ) where
   abbrev textBy : Answer Header → List ℕ
-  textBy f = either f (λ h. let ran = runOf h bytes (zeroGrids h) in reportOf (ran .answer) (ran .records)) refusedLine
+  textBy f = either f (runReport bytes) refusedLine
 
   abbrev fileBy : Answer Header → List ℕ
   fileBy f = either f (λ h. take headerLength bytes ++ runOf h bytes (zeroGrids h) .records) (λ number place. bytes)
@@ -110,6 +112,13 @@ module _ (bytes : List ℕ) where
           file = l ∙ ap fileBy (sym e);
           nodes = g ∙ ap (gridsBy grids) (sym e);
         }
+
+  -- the text is no longer than the buffer that it was put into
+  pub text-within : (text : List ℕ) {told : Printed} {text′ : List ℕ} → told ≡ printed bytes → text′ ≡ textAfter bytes text → told .length ≤ length text′
+  unfolding printed textAfter
+  text-within text e b =
+      let size = length (programText bytes) in
+      omega (arith, ap (λ p. p .length) e, ap length b, length-append (programText bytes) (drop size text))
 
 -- ---- a file that was accepted
 

@@ -6,10 +6,9 @@
 --                   the text buffer, the file buffer and the grids afterwards
 -- Assumes nothing.
 use Prim.Native.Nat.{ℕ, _*_}
-use mathlib.Core.Path.{_≡_}
 use mathlib.Core.Bool.{Bool, true, false}
 use mathlib.Core.List.{List, _++_}
-use lib.IntN.{ℤ, pos}
+use lib.IntN.{pos}
 use lib.ListN.{length, replicate, take, drop}
 use Rattle.particles.specs.Set.{particlesIn, totalsOf}
 use Rattle.simulation.specs.declared.Settings.{Settings}
@@ -50,12 +49,13 @@ reportOf c records =
     (λ _. runText (c .completed) 0 0 totals records)
     (λ number place. runText (c .completed) number place totals records)
 
--- "A refused file prints only `refused R at P`. Otherwise:"
+-- of the run, and of the records that it leaves
+abbrev pub runReport : List ℕ → Header → List ℕ
+runReport bytes h = let ran = runOf h bytes (zeroGrids h) in reportOf (ran .answer) (ran .records)
+
+-- "A refused file prints only `refused R at P`. Otherwise" the report
 unfoldable pub programText : List ℕ → List ℕ
-programText bytes =
-    either (fileAnswer bytes)
-    (λ h. let ran = runOf h bytes (zeroGrids h) in reportOf (ran .answer) (ran .records))
-    refusedLine
+programText bytes = either (fileAnswer bytes) (runReport bytes) refusedLine
 
 -- ---- what the caller of the function sees
 
