@@ -1,17 +1,18 @@
 -- `simulate::serve` is safe: what it runs is within the file, and what it writes within the text. Assumes nothing.
-use mathlib.Core.Path.{sym, subst}
-use lib.Seq.{length-take-le}
-use borrow.Author.Needs.{needs}
+use mathlib.Core.Path.{subst}
 use Rattle.io.specs.Counts.{Counts}
+use Rattle.program.proofs.Files.{text-within}
 use Rattle.simulate.specs.Streams.{Held}
 use Rattle.simulate.specs.declared.streams.Input.{Input}
+use borrow.Author.Needs.{needs}
 use Rattle.simulate.proofs.serve.Statement.{statement}
 use Rattle.simulate.proofs.serve.Tie as tie
 
 -- what was read is within the file's room
 held : (c : tie.After-known-told) → Counts (c .before .length .given .0 .0) (c .before .before .before .before .before .read-all .last .1 .0)
 held c =
-    subst (λ (r : Input). Held r (c .before .before .before .before .before .read-all .last .1 .0)) (c .before .length .given .1) (c .before .before .before .before .before .read-all .ensures)
+    let read = c .before .before .before .before .before .read-all in
+    subst (λ (r : Input). Held r (read .last .1 .0)) (c .before .length .given .1) (read .ensures)
 
 read-all-requires : tie.Need-read-all-requires
 read-all-requires c κs = search needs
@@ -28,23 +29,19 @@ write-all-requires c κs = search needs
 enum-known-length : tie.Need-enum-known-length
 enum-known-length c = search needs
 
-slice-relend-prefix-tell : tie.Need-slice-relend-prefix-tell
-slice-relend-prefix-tell c = held c .0
+slice-relend-prefix-run-file : tie.Need-slice-relend-prefix-run-file
+slice-relend-prefix-run-file c = held c .0
 
-slice-aggregate-tell : tie.Need-slice-aggregate-tell
-slice-aggregate-tell c = held (c .before) .1
+slice-aggregate-run-file : tie.Need-slice-aggregate-run-file
+slice-aggregate-run-file c = held (c .before) .1
 
-tell-requires : tie.Need-tell-requires
-tell-requires c κs = search needs
-
-slice-reshare-prefix-deliver : tie.Need-slice-reshare-prefix-deliver
-slice-reshare-prefix-deliver c = search needs
-
-slice-aggregate-deliver : tie.Need-slice-aggregate-deliver
-slice-aggregate-deliver c = sym (length-take-le (c .before .before .before .before .before .tell .result) (c .before .before .before .before .before .tell .last .1 .0) (c .before .before .before .before .before .tell .ensures))
+run-file-requires : tie.Need-run-file-requires
+run-file-requires c κs = search needs
 
 deliver-requires : tie.Need-deliver-requires
-deliver-requires c κs = search needs
+deliver-requires c κs =
+    let told = c .before .before .before .before .run-file .ensures in
+    text-within _ _ (told .0) (told .1 .0)
 
 same-length : tie.Need-same-length
 same-length c = search needs
@@ -54,9 +51,6 @@ returns c = search needs
 
 same-length-2 : tie.Need-same-length-2
 same-length-2 c = search needs
-
-same-length-3 : tie.Need-same-length-3
-same-length-3 c = search needs
 
 returns-2 : tie.Need-returns-2
 returns-2 c = search needs
@@ -70,14 +64,11 @@ serve-spec =
     slice-aggregate-write-all
     write-all-requires
     enum-known-length
-    slice-relend-prefix-tell
-    slice-aggregate-tell
-    tell-requires
-    slice-reshare-prefix-deliver
-    slice-aggregate-deliver
+    slice-relend-prefix-run-file
+    slice-aggregate-run-file
+    run-file-requires
     deliver-requires
     same-length
     returns
     same-length-2
-    same-length-3
     returns-2)
