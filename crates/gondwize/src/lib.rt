@@ -1,7 +1,5 @@
 // The operations for programs in other languages: numbers and slices in, one number out, and values through the caller's arrays.
 // include/gondwize.h declares them for C.
-mod answer;
-
 use bath_file::FileRead;
 use bath_file::HeaderWritten;
 use particle::Read;
@@ -15,6 +13,7 @@ use spline::Weighed;
 use transfer::Moved;
 use transfer::Scattered;
 use update::Updated;
+use wide::answer;
 ghost use mathlib.Core.Path.{_≡_};
 ghost use Rattle.particle.specs.Record.{readAnswer, writeAnswer, written};
 ghost use Rattle.unpacked.specs.Unpacked.{numbers};
@@ -183,8 +182,7 @@ pub extern "C" fn gondwize_step(
 ) -> u64
     ensures { λ r. ⌜ Tells (λ told. Sees (stepAfter (settingsWith nx ny gx gy) (now (records .entry)) (gridsOf (now (mass .entry)) (now (px .entry)) (now (py .entry)))) told (now (records .exit)) (now (mass .exit)) (now (px .exit)) (now (py .exit))) r ⌝ }
 {
-    let settings = Settings { nx, ny, gx, gy };
-    match simulation::step(settings, records, mass, px, py) {
+    match simulation::step(Settings { nx, ny, gx, gy }, records, mass, px, py) {
         Stepped::Refused(refusal) => answer::code(refusal),
         Stepped::Done => 0,
     }

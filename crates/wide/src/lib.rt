@@ -1,5 +1,6 @@
-// The numbers of a caller in another language, 64 bits each: into the fields of a particle and of a header, where what is too large
-// stays too large, and from results as arrays.
+// The numbers of 64 bits that programs in other languages hand in and get: into the fields of a particle and of a header, where what
+// is too large stays too large; from results, as arrays; and an answer as one number.
+pub mod answer;
 mod narrow;
 
 use bath_file::Header;

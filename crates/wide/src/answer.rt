@@ -7,7 +7,7 @@ ghost use Rattle.refusal.specs.Refused.{number, place};
 // What a refusal's number is multiplied by: more than any place.
 const PLACES: u64 = 4294967296;
 
-// A refusal's number and place. Every operation calls it with the refusal of its answer.
+// A refusal's number and place. Every exported function calls it with the refusal of its operation's answer.
 pub fn code(refusal: Refusal) -> u64
     requires { ⌜ place refusal < 4294967296 ⌝ }
     ensures { λ r. ⌜ r ≡ number refusal * 4294967296 + place refusal ⌝ }
