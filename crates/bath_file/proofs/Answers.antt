@@ -12,9 +12,8 @@ use borrow.Author.Tests.{eq-eqb, ne-eqb, eqb-true, lt-ltb, le-ltb, ltb-false, no
 use lib.Dec.{ltb, eqb}
 use lib.IntN.{natAbs}
 use lib.ListN.{length, take}
-use Rattle.refusal.specs.Refused.{Answer, result, refused, refuseIf, andThen}
+use Rattle.refusal.specs.Refused.{Answer, result, refused, refuseIf, andThen, keptUnless}
 use Rattle.refusal.proofs.Answers.{passed, went-on, same-result, same-refusal, not-refused}
-use Rattle.particle.specs.Record.{keptUnless}
 use Rattle.particles.specs.Set.{setOf}
 use Rattle.particles.specs.Walk.{counted}
 use Rattle.bath_file.specs.declared.Header.{Header}

@@ -6,9 +6,9 @@ use mathlib.Core.List.{List}
 use lib.Dec.{ltb, eqb}
 use lib.IntN.{ℤ, pos, negℤ, natAbs}
 use lib.ListN.{length, take}
-use Rattle.refusal.specs.Refused.{Answer, result, refusedBy, refuseIf, andThen}
+use Rattle.refusal.specs.Refused.{Answer, result, refusedBy, refuseIf, andThen, keptUnless}
 use Rattle.particle.specs.Layout.{recordLength}
-use Rattle.particle.specs.Record.{between, keptUnless}
+use Rattle.particle.specs.Record.{between}
 use Rattle.particles.specs.Set.{validSize, setOf}
 use Rattle.bath_file.specs.declared.Header.{Header}
 use Rattle.bath_file.specs.declared.FileRead.{FileRead}

@@ -7,7 +7,7 @@ use mathlib.Core.List.{List}
 use Prim.Native.Nat.{ℕ, suc, _≤_, _<_}
 use native.Mathlib.Omega.{arith}
 use borrow.Author.Tests.{le-ltb}
-use Rattle.refusal.specs.Refused.{Answer, result, refused, refuseIf}
+use Rattle.refusal.specs.Refused.{Answer, result, refused, refuseIf, either}
 use Rattle.particle.specs.declared.Particle.{Particle}
 use Rattle.apic.specs.Step.{alongX, alongY}
 use Rattle.apic.specs.Limits.{SetLimits}
@@ -16,7 +16,7 @@ use Rattle.particles.proofs.Accepted.{limits-accepted}
 use Rattle.particles.proofs.Checks.{entered}
 use Rattle.update.proofs.Walk.{both-within}
 use Rattle.simulation.specs.declared.Settings.{Settings}
-use Rattle.simulation.specs.Step.{Grids, After, either, checkEntry, setIn, stepOf, nodesOf, stepEntry, stepFrom, stepAfter}
+use Rattle.simulation.specs.Step.{Grids, After, checkEntry, setIn, stepOf, nodesOf, stepEntry, stepFrom, stepAfter}
 use Rattle.simulation.specs.Run.{Completion, afterOne, runFrom, runEntry, runAfter}
 use Rattle.simulation.specs.Internal.{seen}
 use Rattle.simulation.proofs.Refusals.{grid-limits, velocity-limits}

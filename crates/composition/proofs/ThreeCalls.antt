@@ -13,7 +13,7 @@ use lib.Dec.{eqb}
 use lib.ListN.{length, getD}
 use lib.IntN.{ℤ, pos, natAbs}
 use borrow.Author.Tests.{eq-eqb}
-use Rattle.refusal.specs.Refused.{Answer, result, refused, refuseIf, andThen}
+use Rattle.refusal.specs.Refused.{Answer, result, refused, refuseIf, andThen, either, keptUnless}
 use Rattle.particle.specs.declared.Particle.{Particle}
 use Rattle.apic.specs.Step.{Axis, alongX, alongY}
 use Rattle.particles.specs.Set.{recordsOf}
@@ -21,12 +21,12 @@ use Rattle.particles.proofs.Checks.{entered}
 use Rattle.unpacked.proofs.Laws.{each-at}
 use Rattle.gather_core.specs.Gather.{gathered, NodeVelocities}
 use Rattle.update.specs.Checks.{done}
-use Rattle.update.specs.Update.{velocities, updateAnswer, updatedGrid}
+use Rattle.update.specs.Update.{velocities, updateAnswer}
 use Rattle.update.proofs.Walk.{both-within, each-pass}
 use Rattle.transfer.specs.Transfer.{entryAnswer, scatterAnswer, velocityCheck, velocityChecks, checkedSet, moveAnswer, gatherAnswer, Fills, Moves}
 use Rattle.transfer.proofs.Entry.{by-set}
 use Rattle.simulation.specs.declared.Settings.{Settings}
-use Rattle.simulation.specs.Step.{Grids, either, masses, momenta, updatedVelocities, stepped, stepOf, nodesOf, stepEntry, stepFrom, stepAfter}
+use Rattle.simulation.specs.Step.{Grids, masses, momenta, updatedVelocities, stepped, stepOf, nodesOf, stepEntry, stepFrom, stepAfter}
 use Rattle.simulation.specs.Internal.{seen}
 use Rattle.simulation.proofs.Refusals as refusals
 use Rattle.simulation.proofs.Refusals.{velocity-limits}
@@ -107,14 +107,14 @@ module _ (s : Settings) (records : List ℕ) (lent : Grids) {ps : List Particle}
     unfolding updatedVelocities
     ux-is =
         c .update .px-is
-        ∙ ap (λ a. updatedGrid a (velocities (s .nx * s .ny) (s .gx) (c .mass) (c .px)) (c .px)) accepted
+        ∙ ap (λ a. keptUnless a (velocities (s .nx * s .ny) (s .gx) (c .mass) (c .px)) (c .px)) accepted
         ∙ ap₂ (velocities (s .nx * s .ny) (s .gx)) mass-is px-is
 
     uy-is : c .uy ≡ u alongY
     unfolding updatedVelocities
     uy-is =
         c .update .py-is
-        ∙ ap (λ a. updatedGrid a (velocities (s .nx * s .ny) (s .gy) (c .mass) (c .py)) (c .py)) accepted
+        ∙ ap (λ a. keptUnless a (velocities (s .nx * s .ny) (s .gy) (c .mass) (c .py)) (c .py)) accepted
         ∙ ap₂ (velocities (s .nx * s .ny) (s .gy)) mass-is py-is
 
     moves : Moves (stepOf s ps) records (c .gathered) (c .moved)

@@ -19,8 +19,8 @@ use Rattle.spline.proofs.Axis.{Touched, touched}
 use Rattle.particle.specs.declared.Particle.{Particle}
 use Rattle.apic.specs.Step.{moved}
 use Rattle.apic.specs.Limits.{SizeLimits, ParticleLimits}
-use Rattle.unpacked.specs.Unpacked.{particleAt, particlesOf}
-use Rattle.unpacked.proofs.Laws.{NumbersAt, count, set-numbers-at, limits-at}
+use Rattle.unpacked.specs.Unpacked.{particleAt, particlesOf, NumbersAt}
+use Rattle.unpacked.proofs.Laws.{count, set-numbers-at, limits-at}
 use Rattle.gather_point.specs.declared.AffineVelocity.{AffineVelocity}
 use Rattle.gather_core.specs.declared.Gathered.{Gathered}
 use Rattle.gather_point.specs.Point.{Around}

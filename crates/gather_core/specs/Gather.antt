@@ -63,10 +63,6 @@ moveChecks nx ny move k (p ∷ ps) rest = moveCheck nx ny p (move p) k (moveChec
 abbrev pub answerFrom : ℕ → ℕ → ℕ → List ℤ → List ℤ → List Particle → Answer (Unit {0})
 answerFrom first nx ny ux uy ps = moveChecks nx ny (gathered nx ny ux uy) first ps (result tt)
 
--- and for all of them
-abbrev pub gatherAnswer : ℕ → ℕ → List ℤ → List ℤ → List Particle → Answer (Unit {0})
-gatherAnswer nx ny ux uy ps = answerFrom 0 nx ny ux uy ps
-
 -- ---- what `gather_from` and `gather_all` ask and promise
 
 abbrev pub toldGathered : Gathered → Answer (Unit {0})

@@ -26,7 +26,7 @@ use Rattle.apic.specs.Step.{overNodes, node, gatheredVelocity, gatheredAffine, 
 use Rattle.gather_point.specs.declared.Shares.{Shares}
 use Rattle.gather_point.specs.declared.Block.{Block}
 use Rattle.gather_point.specs.declared.AffineVelocity.{AffineVelocity}
-use Rattle.gather_point.specs.Point.{axisAt, sharesOf, weighed, rowShares, blockOf, nineNodes, velocityOf, momentOf}
+use Rattle.gather_point.specs.Point.{axisAt, sharesOf, weighed, rowShares, blockOf, nineNodes, affineVelocityOf, momentAbout}
 
 -- ---- nine nodes
 
@@ -103,18 +103,18 @@ weighed-is a b c h = λ i. sharesOf (h .lower i) (h .nearest i) (h .upper i) a b
 row-sum : (a b c v p q r : ℤ) → a *ℤ v *ℤ p +ℤ b *ℤ v *ℤ q +ℤ c *ℤ v *ℤ r ≡ v *ℤ (sharesOf a b c p q r) .sum
 row-sum a b c v p q r = ring (a ∷ b ∷ c ∷ v ∷ p ∷ q ∷ r ∷ []) (search quote depth 30) (search quote depth 30) tt
 
-row-across : (a b c v p q r k : ℤ) → a *ℤ v *ℤ p *ℤ (negsuc 63 -ℤ k) +ℤ b *ℤ v *ℤ q *ℤ (pos 0 -ℤ k) +ℤ c *ℤ v *ℤ r *ℤ (pos 64 -ℤ k) ≡ v *ℤ momentOf ((sharesOf a b c p q r) .sum) ((sharesOf a b c p q r) .tilt) k
+row-across : (a b c v p q r k : ℤ) → a *ℤ v *ℤ p *ℤ (negsuc 63 -ℤ k) +ℤ b *ℤ v *ℤ q *ℤ (pos 0 -ℤ k) +ℤ c *ℤ v *ℤ r *ℤ (pos 64 -ℤ k) ≡ v *ℤ momentAbout ((sharesOf a b c p q r) .sum) ((sharesOf a b c p q r) .tilt) k
 row-across a b c v p q r k = ring (a ∷ b ∷ c ∷ v ∷ p ∷ q ∷ r ∷ k ∷ []) (search quote depth 30) (search quote depth 30) tt
 
 row-up : (a b c v p q r d : ℤ) → a *ℤ v *ℤ p *ℤ d +ℤ b *ℤ v *ℤ q *ℤ d +ℤ c *ℤ v *ℤ r *ℤ d ≡ v *ℤ ((sharesOf a b c p q r) .sum) *ℤ d
 row-up a b c v p q r d = ring (a ∷ b ∷ c ∷ v ∷ p ∷ q ∷ r ∷ d ∷ []) (search quote depth 30) (search quote depth 30) tt
 
 -- weights a, b, c of the rows; p, q, r their sums and s, t, u their tilts
-rows-across : (a b c p q r s t u k : ℤ) → a *ℤ momentOf p s k +ℤ b *ℤ momentOf q t k +ℤ c *ℤ momentOf r u k ≡ momentOf ((sharesOf a b c p q r) .sum) ((sharesOf a b c s t u) .sum) k
+rows-across : (a b c p q r s t u k : ℤ) → a *ℤ momentAbout p s k +ℤ b *ℤ momentAbout q t k +ℤ c *ℤ momentAbout r u k ≡ momentAbout ((sharesOf a b c p q r) .sum) ((sharesOf a b c s t u) .sum) k
 rows-across a b c p q r s t u k =
     ring (a ∷ b ∷ c ∷ p ∷ q ∷ r ∷ s ∷ t ∷ u ∷ k ∷ []) (search quote depth 30 fits 20000) (search quote depth 30 fits 20000) tt
 
-rows-up : (a b c p q r k : ℤ) → a *ℤ p *ℤ (negsuc 63 -ℤ k) +ℤ b *ℤ q *ℤ (pos 0 -ℤ k) +ℤ c *ℤ r *ℤ (pos 64 -ℤ k) ≡ momentOf ((sharesOf a b c p q r) .sum) ((sharesOf a b c p q r) .tilt) k
+rows-up : (a b c p q r k : ℤ) → a *ℤ p *ℤ (negsuc 63 -ℤ k) +ℤ b *ℤ q *ℤ (pos 0 -ℤ k) +ℤ c *ℤ r *ℤ (pos 64 -ℤ k) ≡ momentAbout ((sharesOf a b c p q r) .sum) ((sharesOf a b c p q r) .tilt) k
 rows-up a b c p q r k = ring (a ∷ b ∷ c ∷ p ∷ q ∷ r ∷ k ∷ []) (search quote depth 30) (search quote depth 30) tt
 
 -- ---- where the nodes stand in the list
@@ -195,15 +195,15 @@ module _ (nx ny : ℕ) (u : List ℤ) (x y : ℕ) (on-x : Touched nx x) (on-y : 
       ∙ three-cong y (λ j v. threeNodes x (λ i w. w *ℤ v *ℤ node nx u i j)) (λ j v. v *ℤ rowAt nx u x j .sum)
       (λ j v. row-sum (lowerWeight (offset x)) (nearestWeight (offset x)) (upperWeight (offset x)) v (node nx u (nearestNode x - 1) j) (node nx u (nearestNode x) j) (node nx u (nearestNode x + 1) j))
 
-  across : overNodes nx ny (λ i j. axisWeight x i *ℤ axisWeight y j *ℤ node nx u i j *ℤ displacement x i) ≡ momentOf (rowsAt nx u x y .sum) (rowsAt nx u x y .across) (offset x)
+  across : overNodes nx ny (λ i j. axisWeight x i *ℤ axisWeight y j *ℤ node nx u i j *ℤ displacement x i) ≡ momentAbout (rowsAt nx u x y .sum) (rowsAt nx u x y .across) (offset x)
   across =
       grid-sum (λ i j w. w *ℤ node nx u i j *ℤ displacement x i) (λ i j. ap (λ z. z *ℤ displacement x i) (zero-*ℤ (node nx u i j)) ∙ zero-*ℤ (displacement x i)) nx ny x y on-x on-y
-      ∙ three-cong y (λ j v. threeNodes x (λ i w. w *ℤ v *ℤ node nx u i j *ℤ displacement x i)) (λ j v. v *ℤ momentOf (rowAt nx u x j .sum) (rowAt nx u x j .tilt) (offset x)) (λ j v. of-row j v)
+      ∙ three-cong y (λ j v. threeNodes x (λ i w. w *ℤ v *ℤ node nx u i j *ℤ displacement x i)) (λ j v. v *ℤ momentAbout (rowAt nx u x j .sum) (rowAt nx u x j .tilt) (offset x)) (λ j v. of-row j v)
       ∙ rows-across (lowerWeight (offset y)) (nearestWeight (offset y)) (upperWeight (offset y))
       (rowAt nx u x (nearestNode y - 1) .sum) (rowAt nx u x (nearestNode y) .sum) (rowAt nx u x (nearestNode y + 1) .sum)
       (rowAt nx u x (nearestNode y - 1) .tilt) (rowAt nx u x (nearestNode y) .tilt) (rowAt nx u x (nearestNode y + 1) .tilt) (offset x)
     where
-      of-row : (j : ℕ) (v : ℤ) → threeNodes x (λ i w. w *ℤ v *ℤ node nx u i j *ℤ displacement x i) ≡ v *ℤ momentOf (rowAt nx u x j .sum) (rowAt nx u x j .tilt) (offset x)
+      of-row : (j : ℕ) (v : ℤ) → threeNodes x (λ i w. w *ℤ v *ℤ node nx u i j *ℤ displacement x i) ≡ v *ℤ momentAbout (rowAt nx u x j .sum) (rowAt nx u x j .tilt) (offset x)
       of-row j v =
           ap₂ _+ℤ_
           (ap₂ _+ℤ_
@@ -212,7 +212,7 @@ module _ (nx ny : ℕ) (u : List ℤ) (x y : ℕ) (on-x : Touched nx x) (on-y : 
           (ap (λ d. upperWeight (offset x) *ℤ v *ℤ node nx u (nearestNode x + 1) j *ℤ d) (upper-off x))
           ∙ row-across (lowerWeight (offset x)) (nearestWeight (offset x)) (upperWeight (offset x)) v (node nx u (nearestNode x - 1) j) (node nx u (nearestNode x) j) (node nx u (nearestNode x + 1) j) (offset x)
 
-  up : overNodes nx ny (λ i j. axisWeight x i *ℤ axisWeight y j *ℤ node nx u i j *ℤ displacement y j) ≡ momentOf (rowsAt nx u x y .sum) (rowsAt nx u x y .up) (offset y)
+  up : overNodes nx ny (λ i j. axisWeight x i *ℤ axisWeight y j *ℤ node nx u i j *ℤ displacement y j) ≡ momentAbout (rowsAt nx u x y .sum) (rowsAt nx u x y .up) (offset y)
   up =
       grid-sum (λ i j w. w *ℤ node nx u i j *ℤ displacement y j) (λ i j. ap (λ z. z *ℤ displacement y j) (zero-*ℤ (node nx u i j)) ∙ zero-*ℤ (displacement y j)) nx ny x y on-x on-y
       ∙ three-cong y (λ j v. threeNodes x (λ i w. w *ℤ v *ℤ node nx u i j *ℤ displacement y j)) (λ j v. v *ℤ rowAt nx u x j .sum *ℤ displacement y j)
@@ -234,10 +234,10 @@ axisOf nx ny u p =
       by = gatheredAffine (nearest halvesAway) axisWeight nx ny alongY (node nx u) p;
     }
 
-gathered-axis : {wx wy : AxisWeights} (nx ny : ℕ) (u : List ℤ) (p : Particle) → Touched nx (p .x) → Touched ny (p .y) → WeightsOf wx (p .x) → WeightsOf wy (p .y) → velocityOf (nineNodes wx wy nx u ((nearestNode (p .y) - 1) * nx + (nearestNode (p .x) - 1))) (offset (p .x)) (offset (p .y)) ≡ axisOf nx ny u p
-unfolding velocityOf gatheredVelocity gatheredAffine
+gathered-axis : {wx wy : AxisWeights} (nx ny : ℕ) (u : List ℤ) (p : Particle) → Touched nx (p .x) → Touched ny (p .y) → WeightsOf wx (p .x) → WeightsOf wy (p .y) → affineVelocityOf (nineNodes wx wy nx u ((nearestNode (p .y) - 1) * nx + (nearestNode (p .x) - 1))) (offset (p .x)) (offset (p .y)) ≡ axisOf nx ny u p
+unfolding affineVelocityOf gatheredVelocity gatheredAffine
 gathered-axis nx ny u p on-x on-y hx hy =
-    ap (λ b. velocityOf b (offset (p .x)) (offset (p .y))) (nine-is nx u (p .x) (p .y) hx hy (on-x .low) (on-y .low))
+    ap (λ b. affineVelocityOf b (offset (p .x)) (offset (p .y))) (nine-is nx u (p .x) (p .y) hx hy (on-x .low) (on-y .low))
     ∙ (λ i. record {
       v = nearest halvesAway (sym (total nx ny u (p .x) (p .y) on-x on-y) i) (2 ^ 34);
       bx = nearest halvesAway (sym (across nx ny u (p .x) (p .y) on-x on-y) i) (2 ^ 34);

@@ -65,15 +65,15 @@ pub record SmallBlock (b : Block) : Type 0 where
   pub up-size : Bound (b .up) 9007199254740992
 
 -- the offsets of the three nodes of an axis are −64 − q, −q and 64 − q
-abbrev pub momentOf : ℤ → ℤ → ℤ → ℤ
-momentOf sum tilt q = pos 64 *ℤ tilt -ℤ q *ℤ sum
+abbrev pub momentAbout : ℤ → ℤ → ℤ → ℤ
+momentAbout sum tilt q = pos 64 *ℤ tilt -ℤ q *ℤ sum
 
-unfoldable pub velocityOf : Block → ℤ → ℤ → AffineVelocity
-velocityOf b qx qy =
+unfoldable pub affineVelocityOf : Block → ℤ → ℤ → AffineVelocity
+affineVelocityOf b qx qy =
     record {
       v = nearest halvesAway (b .sum) (2 ^ 34);
-      bx = nearest halvesAway (momentOf (b .sum) (b .across) qx) (2 ^ 34);
-      by = nearest halvesAway (momentOf (b .sum) (b .up) qy) (2 ^ 34);
+      bx = nearest halvesAway (momentAbout (b .sum) (b .across) qx) (2 ^ 34);
+      by = nearest halvesAway (momentAbout (b .sum) (b .up) qy) (2 ^ 34);
     }
 
 -- the nine nodes of which the first is at place `at`
@@ -102,7 +102,7 @@ pub record Around (nx x y : ℕ) (ux uy : List ℤ) : Type 0 where
 -- what is gathered there from the node velocities u, with the weights of table t
 unfoldable pub axisAt : List (List ℕ) → ℕ → List ℤ → ℕ → ℕ → AffineVelocity
 axisAt t nx u x y =
-    velocityOf
+    affineVelocityOf
     (nineNodes (rowOf (getD t ((x + 32) % 64) [])) (rowOf (getD t ((y + 32) % 64) [])) nx u ((nearestNode y - 1) * nx + (nearestNode x - 1)))
     (offset x) (offset y)
 

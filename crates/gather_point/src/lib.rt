@@ -7,7 +7,7 @@ ghost use Rattle.arith.specs.Size.{Bound};
 ghost use Rattle.arith.specs.Sums.{Each};
 ghost use Rattle.arith.specs.Rounding.{nearest, halvesAway};
 ghost use Rattle.spline.specs.Spline.{offset, nearestNode};
-ghost use Rattle.gather_point.specs.Point.{Weighable, sharesOf, weighed, SmallWeights, rowShares, SmallShares, blockOf, SmallBlock, momentOf, velocityOf, nineNodes, Nine, Around, MotionAt};
+ghost use Rattle.gather_point.specs.Point.{Weighable, sharesOf, weighed, SmallWeights, rowShares, SmallShares, blockOf, SmallBlock, momentAbout, affineVelocityOf, nineNodes, Nine, Around, MotionAt};
 use spline::AxisWeights;
 
 // Of three neighbours: the weighed sum, and the upper one's share less the lower one's.
@@ -92,7 +92,7 @@ fn rounded(sum: i64) -> i64
 // Σ W·u·d along one axis, where the particle is at offset q from its nearest node.
 fn moment(sum: i64, tilt: i64, q: i64) -> i64
     requires { ⌜ Bound sum 9007199254740992 × Bound tilt 9007199254740992 × Bound q 32 ⌝ }
-    ensures { λ r. ⌜ (r ≡ momentOf sum tilt q) × Bound r 1152921504606846976 ⌝ }
+    ensures { λ r. ⌜ (r ≡ momentAbout sum tilt q) × Bound r 1152921504606846976 ⌝ }
 {
     64 * tilt - q * sum
 }
@@ -100,7 +100,7 @@ fn moment(sum: i64, tilt: i64, q: i64) -> i64
 // The velocity on one axis from the sums over the nine nodes.
 fn affine_velocity(b: Block, qx: i64, qy: i64) -> AffineVelocity
     requires { ⌜ SmallBlock b × Bound qx 32 × Bound qy 32 ⌝ }
-    ensures { λ r. ⌜ (r ≡ velocityOf b qx qy) × Bound (r .v) 524288 ⌝ }
+    ensures { λ r. ⌜ (r ≡ affineVelocityOf b qx qy) × Bound (r .v) 524288 ⌝ }
 {
     AffineVelocity {
         v: rounded(b.sum),
@@ -136,7 +136,7 @@ fn gather_axis(
     qy: i64,
 ) -> AffineVelocity
     requires { ⌜ Nine nx at (now u) qx qy ⌝ }
-    ensures { λ r. ⌜ (r ≡ velocityOf (nineNodes wx wy nx (now (u .entry)) at) qx qy) × Bound (r .v) 524288 ⌝ }
+    ensures { λ r. ⌜ (r ≡ affineVelocityOf (nineNodes wx wy nx (now (u .entry)) at) qx qy) × Bound (r .v) 524288 ⌝ }
 {
     let low = row_shares(wx, u, at);
     let middle = row_shares(wx, u, at + nx);

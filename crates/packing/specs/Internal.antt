@@ -5,9 +5,8 @@ use mathlib.Core.List.{List, _++_}
 use Prim.Native.Nat.{ℕ, _+_, _*_, _≤_, _<_}
 use lib.ListN.{length, getD, take, drop}
 use lib.IntN.{ℤ, pos, natAbs}
-use Rattle.particle.proofs.Valid.{Valid}
-use Rattle.unpacked.specs.Unpacked.{particleAt}
-use Rattle.unpacked.proofs.Laws.{NumbersAt}
+use Rattle.particle.specs.Record.{Valid}
+use Rattle.unpacked.specs.Unpacked.{particleAt, NumbersAt}
 
 -- a list of parts of n elements each, with another part at place k
 abbrev pub placed : {A : Type 0} → ℕ → List A → ℕ → List A → List A

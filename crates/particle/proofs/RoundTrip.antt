@@ -21,10 +21,10 @@ use Rattle.particle.specs.declared.Particle.{Particle}
 use Rattle.particle.specs.Bits.{cut, join, widths, residue, valueOf}
 use Rattle.particle.specs.Internal.{Below}
 use Rattle.particle.specs.Layout.{layout, byteWidths, recordLength, is, held, identifier, mass, x, y, vx, vy, Bxx, Bxy, Byx, Byy}
-use Rattle.particle.specs.Record.{particleOf, recordOf, isℤ, lowestVelocity, lowestAffine, readParticle, readAnswer, writeParticle, writeAnswer, written}
+use Rattle.particle.specs.Record.{particleOf, recordOf, isℤ, lowestVelocity, lowestAffine, readParticle, readAnswer, writeParticle, writeAnswer, written, Valid}
 use Rattle.particle.proofs.Parts.{join-cut, join-lt, cut-join, cut-below, bytes-below, below-bytes}
 use Rattle.particle.proofs.Signed.{mag-le, decoded-residue, residue-decoded, residue-lt, above-lowest, size, decoded-mag}
-use Rattle.particle.proofs.Valid.{Valid, write-valid, valid-write, never}
+use Rattle.particle.proofs.Valid.{write-valid, valid-write, never}
 use Rattle.particle.proofs.Writing.{after, judged, allowed}
 
 -- ---- a record's length and bytes

@@ -1,5 +1,4 @@
 -- The limits of a particle's values as facts about numbers.
---     Valid             every value of a particle is within its limits
 --     write-valid       what `writeParticle` accepts is valid, and `valid-write` back
 --     never             a refusal is no result
 -- Assumes nothing.
@@ -13,19 +12,7 @@ use lib.IntN.{ℤ, pos, negsuc, negℤ, natAbs}
 use lib.Signed.{leZ}
 use Rattle.refusal.specs.Refused.{result, refused, refuseIf}
 use Rattle.particle.specs.declared.Particle.{Particle}
-use Rattle.particle.specs.Record.{between, validMass, validAffine, validVelocities, validAffines, validPositions, writeParticle}
-
-pub record Valid (p : Particle) : Type 0 where
-  pub mass-from : 1 ≤ p .mass
-  pub mass-to : p .mass ≤ 1023
-  pub vx-to : natAbs (p .vx) ≤ 63
-  pub vy-to : natAbs (p .vy) ≤ 63
-  pub bxx-to : natAbs (p .bxx) ≤ 2047
-  pub bxy-to : natAbs (p .bxy) ≤ 2047
-  pub byx-to : natAbs (p .byx) ≤ 2047
-  pub byy-to : natAbs (p .byy) ≤ 2047
-  pub x-to : p .x ≤ 4095
-  pub y-to : p .y ≤ 4095
+use Rattle.particle.specs.Record.{between, Valid, validMass, validAffine, validVelocities, validAffines, validPositions, writeParticle}
 
 pub never : {A : Type 0} {n k : ℕ} {a : A} → refused n k ≡ result a → ⊥
 never e = let z : _≡_ {A = ℕ} 0 1 = cc in omega arith

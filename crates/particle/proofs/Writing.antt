@@ -7,10 +7,10 @@ use mathlib.Core.List.{List}
 use borrow.Author.Tests.{eq-eqb, ne-eqb, eqb-true}
 use lib.Dec.{eqb}
 use lib.ListN.{length}
-use Rattle.refusal.specs.Refused.{Answer, result, refused, refuseIf}
+use Rattle.refusal.specs.Refused.{Answer, result, refused, refuseIf, keptUnless}
 use Rattle.particle.specs.declared.Particle.{Particle}
 use Rattle.particle.specs.Layout.{recordLength}
-use Rattle.particle.specs.Record.{recordOf, writeParticle, writeAnswer, written, keptUnless}
+use Rattle.particle.specs.Record.{recordOf, writeParticle, writeAnswer, written}
 use Rattle.particle.proofs.Valid.{never}
 
 -- a check that lets a result pass did not refuse

@@ -1,13 +1,13 @@
 -- Reading and writing a particle record: the answers of document 01's "Read a record" and "Write a record", and the buffer that a write leaves.
 -- Assumes nothing.
-use Prim.Native.Nat.{ℕ}
+use Prim.Native.Nat.{ℕ, _≤_}
 use mathlib.Core.Bool.{Bool, not, _&&_, _||_}
 use mathlib.Core.List.{List}
 use lib.Dec.{eqb, leb}
 use lib.IntN.{ℤ, pos, negℤ, natAbs}
 use lib.Signed.{leZ}
 use lib.ListN.{length}
-use Rattle.refusal.specs.Refused.{Answer, result, refused, refusedBy, refuseIf}
+use Rattle.refusal.specs.Refused.{Answer, result, refusedBy, refuseIf, keptUnless}
 use Rattle.particle.specs.declared.Particle.{Particle}
 use Rattle.particle.specs.declared.Read.{Read}
 use Rattle.particle.specs.declared.Read.the-variants as read
@@ -116,15 +116,24 @@ writeParticle p =
     (refuseIf (not (validPositions p)) 7 0
     (result tt))))
 
+-- the same as facts
+pub record Valid (p : Particle) : Type 0 where
+  pub mass-from : 1 ≤ p .mass
+  pub mass-to : p .mass ≤ 1023
+  pub vx-to : natAbs (p .vx) ≤ 63
+  pub vy-to : natAbs (p .vy) ≤ 63
+  pub bxx-to : natAbs (p .bxx) ≤ 2047
+  pub bxy-to : natAbs (p .bxy) ≤ 2047
+  pub byx-to : natAbs (p .byx) ≤ 2047
+  pub byy-to : natAbs (p .byy) ≤ 2047
+  pub x-to : p .x ≤ 4095
+  pub y-to : p .y ≤ 4095
+
 -- 1 length not 14, and then the particle's
 unfoldable pub writeAnswer : Particle → List ℕ → Answer Unit
 writeAnswer p bytes = refuseIf (not (eqb (length bytes) recordLength)) 1 0 (writeParticle p)
 
--- the buffer afterwards: the record where the answer is a result, and else what it was
-abbrev pub keptUnless : Answer Unit → List ℕ → List ℕ → List ℕ
-keptUnless (result r) new old = new
-keptUnless (refused n k) new old = old
-
+-- the buffer afterwards
 unfoldable pub written : Particle → List ℕ → List ℕ
 written p bytes = keptUnless (writeAnswer p bytes) (recordOf p) bytes
 

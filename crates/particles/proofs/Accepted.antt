@@ -22,8 +22,7 @@ use Rattle.refusal.proofs.Answers.{same-result}
 use Rattle.arith.specs.Sums.{Each}
 use Rattle.spline.specs.Spline.{onAxis}
 use Rattle.particle.specs.declared.Particle.{Particle}
-use Rattle.particle.specs.Record.{readAnswer, recordOf}
-use Rattle.particle.proofs.Valid.{Valid}
+use Rattle.particle.specs.Record.{readAnswer, recordOf, Valid}
 use Rattle.particle.proofs.RoundTrip.{Held, read-held, record-of-read, read-of-valid, record-length}
 use Rattle.apic.specs.Totals.{totalMass}
 use Rattle.apic.specs.Limits.{SizeLimits, ParticleLimits, Rising, SetLimits}

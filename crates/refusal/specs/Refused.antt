@@ -61,3 +61,13 @@ refuseIf false n k rest = rest
 abbrev pub andThen : {A B : Type 0} → Answer A → (A → Answer B) → Answer B
 andThen (result a) next = next a
 andThen (refused n k) next = refused n k
+
+-- an answer's two cases
+abbrev pub either : {A B : Type 0} → Answer A → (A → B) → (ℕ → ℕ → B) → B
+either (result a) accept refuse = accept a
+either (refused n k) accept refuse = refuse n k
+
+-- what a call leaves of a buffer: something else where it has a result, and where it is refused what it was
+abbrev pub keptUnless : {A B : Type 0} → Answer A → B → B → B
+keptUnless (result a) new old = new
+keptUnless (refused n k) new old = old

@@ -15,9 +15,9 @@ use Rattle.arith.specs.Machine.{read-size, read-as}
 use Rattle.particle.specs.declared.Particle.{Particle}
 use Rattle.apic.specs.Step.{nodeMass, nodeMomentum}
 use Rattle.apic.specs.Limits.{ParticleLimits}
-use Rattle.unpacked.specs.Unpacked.{particleAt}
-use Rattle.unpacked.proofs.Laws.{NumbersAt, count, set-numbers-at, limits-at}
-use Rattle.scatter_particle.specs.Added.{Added, ParticleReady, particleOf}
+use Rattle.unpacked.specs.Unpacked.{particleAt, NumbersAt}
+use Rattle.unpacked.proofs.Laws.{count, set-numbers-at, limits-at}
+use Rattle.scatter_particle.specs.Added.{Added, ParticleReady, unidentified}
 use Rattle.scatter_particle.proofs.Particles.{axis-small}
 use Rattle.scatter_core.specs.Scatter.{NthReady}
 
@@ -55,15 +55,15 @@ module _ {nx ny : ℕ} {l : List ℤ} {k : ℕ} {weights : List (List ℕ)} {mas
 
   -- the particle but for its identifier
   nameless : Particle
-  nameless = let p = particleAt l k in particleOf (p .mass) (p .x) (p .y) (p .vx) (p .vy) (p .bxx) (p .bxy) (p .byx) (p .byy)
+  nameless = let p = particleAt l k in unidentified (p .mass) (p .x) (p .y) (p .vx) (p .vy) (p .bxx) (p .bxy) (p .byx) (p .byy)
 
-  read : particleOf (natAbs (toZ w64 (ofZ w64 (getD l (10 * k + 1) (pos 0))))) (natAbs (toZ w64 (ofZ w64 (getD l (10 * k + 2) (pos 0))))) (natAbs (toZ w64 (ofZ w64 (getD l (10 * k + 3) (pos 0))))) (toZ w64 (ofZ w64 (getD l (10 * k + 4) (pos 0)))) (toZ w64 (ofZ w64 (getD l (10 * k + 5) (pos 0)))) (toZ w64 (ofZ w64 (getD l (10 * k + 6) (pos 0)))) (toZ w64 (ofZ w64 (getD l (10 * k + 7) (pos 0)))) (toZ w64 (ofZ w64 (getD l (10 * k + 8) (pos 0)))) (toZ w64 (ofZ w64 (getD l (10 * k + 9) (pos 0)))) ≡ nameless
+  read : unidentified (natAbs (toZ w64 (ofZ w64 (getD l (10 * k + 1) (pos 0))))) (natAbs (toZ w64 (ofZ w64 (getD l (10 * k + 2) (pos 0))))) (natAbs (toZ w64 (ofZ w64 (getD l (10 * k + 3) (pos 0))))) (toZ w64 (ofZ w64 (getD l (10 * k + 4) (pos 0)))) (toZ w64 (ofZ w64 (getD l (10 * k + 5) (pos 0)))) (toZ w64 (ofZ w64 (getD l (10 * k + 6) (pos 0)))) (toZ w64 (ofZ w64 (getD l (10 * k + 7) (pos 0)))) (toZ w64 (ofZ w64 (getD l (10 * k + 8) (pos 0)))) (toZ w64 (ofZ w64 (getD l (10 * k + 9) (pos 0)))) ≡ nameless
   unfolding nameless
   read =
-      λ t. particleOf (natAbs (read-as w64 (at .mass) (bound-pos mass-small) tt t)) (natAbs (read-as w64 (at .x) (bound-pos x-small) tt t)) (natAbs (read-as w64 (at .y) (bound-pos y-small) tt t))
+      λ t. unidentified (natAbs (read-as w64 (at .mass) (bound-pos mass-small) tt t)) (natAbs (read-as w64 (at .x) (bound-pos x-small) tt t)) (natAbs (read-as w64 (at .y) (bound-pos y-small) tt t))
       (read-size w64 (particleAt l k .vx) (limits .vx) tt t) (read-size w64 (particleAt l k .vy) (limits .vy) tt t) (read-size w64 (particleAt l k .bxx) (limits .bxx) tt t) (read-size w64 (particleAt l k .bxy) (limits .bxy) tt t) (read-size w64 (particleAt l k .byx) (limits .byx) tt t) (read-size w64 (particleAt l k .byy) (limits .byy) tt t)
 
-  pub nth-asked : ParticleReady nx ny (particleOf (natAbs (toZ w64 (ofZ w64 (getD l (10 * k + 1) (pos 0))))) (natAbs (toZ w64 (ofZ w64 (getD l (10 * k + 2) (pos 0))))) (natAbs (toZ w64 (ofZ w64 (getD l (10 * k + 3) (pos 0))))) (toZ w64 (ofZ w64 (getD l (10 * k + 4) (pos 0)))) (toZ w64 (ofZ w64 (getD l (10 * k + 5) (pos 0)))) (toZ w64 (ofZ w64 (getD l (10 * k + 6) (pos 0)))) (toZ w64 (ofZ w64 (getD l (10 * k + 7) (pos 0)))) (toZ w64 (ofZ w64 (getD l (10 * k + 8) (pos 0)))) (toZ w64 (ofZ w64 (getD l (10 * k + 9) (pos 0))))) weights mass px py
+  pub nth-asked : ParticleReady nx ny (unidentified (natAbs (toZ w64 (ofZ w64 (getD l (10 * k + 1) (pos 0))))) (natAbs (toZ w64 (ofZ w64 (getD l (10 * k + 2) (pos 0))))) (natAbs (toZ w64 (ofZ w64 (getD l (10 * k + 3) (pos 0))))) (toZ w64 (ofZ w64 (getD l (10 * k + 4) (pos 0)))) (toZ w64 (ofZ w64 (getD l (10 * k + 5) (pos 0)))) (toZ w64 (ofZ w64 (getD l (10 * k + 6) (pos 0)))) (toZ w64 (ofZ w64 (getD l (10 * k + 7) (pos 0)))) (toZ w64 (ofZ w64 (getD l (10 * k + 8) (pos 0)))) (toZ w64 (ofZ w64 (getD l (10 * k + 9) (pos 0))))) weights mass px py
   unfolding nameless
   nth-asked =
       subst (λ p. ParticleReady nx ny p weights mass px py) (sym read)
@@ -87,7 +87,7 @@ module _ {nx ny : ℕ} {l : List ℤ} {k : ℕ} {weights : List (List ℕ)} {mas
         held = ready .held;
       })
 
-  pub nth-added : {mass′ : List ℕ} {px′ py′ : List ℤ} → Added nx ny (particleOf (natAbs (toZ w64 (ofZ w64 (getD l (10 * k + 1) (pos 0))))) (natAbs (toZ w64 (ofZ w64 (getD l (10 * k + 2) (pos 0))))) (natAbs (toZ w64 (ofZ w64 (getD l (10 * k + 3) (pos 0))))) (toZ w64 (ofZ w64 (getD l (10 * k + 4) (pos 0)))) (toZ w64 (ofZ w64 (getD l (10 * k + 5) (pos 0)))) (toZ w64 (ofZ w64 (getD l (10 * k + 6) (pos 0)))) (toZ w64 (ofZ w64 (getD l (10 * k + 7) (pos 0)))) (toZ w64 (ofZ w64 (getD l (10 * k + 8) (pos 0)))) (toZ w64 (ofZ w64 (getD l (10 * k + 9) (pos 0)))) ∷ []) mass px py mass′ px′ py′ → Added nx ny (particleAt l k ∷ []) mass px py mass′ px′ py′
+  pub nth-added : {mass′ : List ℕ} {px′ py′ : List ℤ} → Added nx ny (unidentified (natAbs (toZ w64 (ofZ w64 (getD l (10 * k + 1) (pos 0))))) (natAbs (toZ w64 (ofZ w64 (getD l (10 * k + 2) (pos 0))))) (natAbs (toZ w64 (ofZ w64 (getD l (10 * k + 3) (pos 0))))) (toZ w64 (ofZ w64 (getD l (10 * k + 4) (pos 0)))) (toZ w64 (ofZ w64 (getD l (10 * k + 5) (pos 0)))) (toZ w64 (ofZ w64 (getD l (10 * k + 6) (pos 0)))) (toZ w64 (ofZ w64 (getD l (10 * k + 7) (pos 0)))) (toZ w64 (ofZ w64 (getD l (10 * k + 8) (pos 0)))) (toZ w64 (ofZ w64 (getD l (10 * k + 9) (pos 0)))) ∷ []) mass px py mass′ px′ py′ → Added nx ny (particleAt l k ∷ []) mass px py mass′ px′ py′
   unfolding nameless nodeMass nodeMomentum
   nth-added {mass′} {px′} {py′} a =
       let b : Added nx ny (nameless ∷ []) mass px py mass′ px′ py′ = subst (λ p. Added nx ny (p ∷ []) mass px py mass′ px′ py′) read a in

@@ -29,7 +29,7 @@ use Rattle.grid_cells.proofs.Grids.{grid-cong, length-plus, plus-from, plus-con
 use Rattle.scatter_block.specs.Lines.{Held, mostBefore}
 use Rattle.scatter_particle.specs.Added.{Added, massAt, momentumAt}
 use Rattle.scatter_particle.proofs.Bounds.{mass-nonneg, mass-bounded, momentum-bounded, weightMost, rateMost}
-use Rattle.scatter_core.specs.Scatter.{Scattered, SetReady, ScatterReady, NthReady, mostAtFirst}
+use Rattle.scatter_core.specs.Scatter.{ScatteredGrids, SetReady, ScatterReady, NthReady, mostAtFirst}
 
 -- ---- no particle, and one set after another
 
@@ -205,7 +205,7 @@ module _ (mass : List ℕ) (px py : List ℤ) {mass′ : List ℕ} {px′ py′ 
         held = cleared-held mostAtFirst (ready .mass-long) (ready .px-long) (ready .py-long);
       }
 
-  pub scattered : {nx ny : ℕ} {ps : List Particle} {mass″ : List ℕ} {px″ py″ : List ℤ} → Added nx ny ps mass′ px′ py′ mass″ px″ py″ → Scattered nx ny ps mass″ px″ py″
+  pub scattered : {nx ny : ℕ} {ps : List Particle} {mass″ : List ℕ} {px″ py″ : List ℤ} → Added nx ny ps mass′ px′ py′ mass″ px″ py″ → ScatteredGrids nx ny ps mass″ px″ py″
   scattered {nx} {ny} {ps} a =
       record {
         of-mass =

@@ -13,7 +13,7 @@ use Rattle.scatter_block.specs.Lines.{Held, mostBefore}
 use Rattle.scatter_particle.specs.Added.{massAt, momentumAt}
 
 -- the grids after a scatter
-pub record Scattered (nx ny : ℕ) (ps : List Particle) (mass : List ℕ) (px py : List ℤ) : Type 0 where
+pub record ScatteredGrids (nx ny : ℕ) (ps : List Particle) (mass : List ℕ) (px py : List ℤ) : Type 0 where
   pub of-mass : mass ≡ grid nx ny (λ i j. natAbs (massAt ps i j))
   pub of-px : px ≡ grid nx ny (momentumAt alongX ps)
   pub of-py : py ≡ grid nx ny (momentumAt alongY ps)

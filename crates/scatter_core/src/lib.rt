@@ -2,7 +2,7 @@
 ghost use mathlib.Core.List.{[], _∷_};
 ghost use Rattle.unpacked.specs.Unpacked.{particleAt, particlesOf};
 ghost use Rattle.scatter_particle.specs.Added.{Added};
-ghost use Rattle.scatter_core.specs.Scatter.{Scattered, SetReady, ScatterReady, NthReady};
+ghost use Rattle.scatter_core.specs.Scatter.{ScatteredGrids, SetReady, ScatterReady, NthReady};
 
 // Adds the shares of the particle whose numbers start at place 10·k.
 fn add_nth(
@@ -79,7 +79,7 @@ pub fn scatter_all(
     py: &mut [i64],
 )
     requires { ⌜ ScatterReady nx ny (now particles) (now table) (now mass) (now px) (now py) ⌝ }
-    ensures { λ r. ⌜ Scattered nx ny (particlesOf (now (particles .entry))) (now (mass .exit)) (now (px .exit)) (now (py .exit)) ⌝ }
+    ensures { λ r. ⌜ ScatteredGrids nx ny (particlesOf (now (particles .entry))) (now (mass .exit)) (now (px .exit)) (now (py .exit)) ⌝ }
 {
     grid_cells::clear_masses(mass);
     grid_cells::clear(px);

@@ -35,9 +35,9 @@ pub record ParticleReady (nx ny : ℕ) (p : Particle) (weights : List (List ℕ)
   pub is-table : weights ≡ table
   pub held : Held mostBefore (nx * ny) mass px py
 
--- the particle of these numbers; no transfer reads its identifier
-abbrev pub particleOf : ℕ → ℕ → ℕ → ℤ → ℤ → ℤ → ℤ → ℤ → ℤ → Particle
-particleOf m x y vx vy bxx bxy byx byy =
+-- the particle of these numbers, with identifier 0: no transfer reads it
+abbrev pub unidentified : ℕ → ℕ → ℕ → ℤ → ℤ → ℤ → ℤ → ℤ → ℤ → Particle
+unidentified m x y vx vy bxx bxy byx byy =
     record {
       identifier = 0;
       mass = m;

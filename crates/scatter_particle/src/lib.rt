@@ -4,7 +4,7 @@ ghost use mathlib.Core.List.{[], _∷_};
 ghost use Prim.Native.Nat.{_≤_};
 ghost use lib.IntN.{pos, _+ℤ_, _*ℤ_};
 ghost use Rattle.arith.specs.Size.{Bound};
-ghost use Rattle.scatter_particle.specs.Added.{Added, ParticleReady, particleOf, Middle, SpeedLimits};
+ghost use Rattle.scatter_particle.specs.Added.{Added, ParticleReady, unidentified, Middle, SpeedLimits};
 
 // The nearest node minus particle, along one axis.
 fn middle(x: usize) -> i64
@@ -48,8 +48,8 @@ pub fn add_particle(
     px: &mut [i64],
     py: &mut [i64],
 )
-    requires { ⌜ ParticleReady nx ny (particleOf m x y vx vy bxx bxy byx byy) (now table) (now mass) (now px) (now py) ⌝ }
-    ensures { λ r. ⌜ Added nx ny (particleOf m x y vx vy bxx bxy byx byy ∷ []) (now (mass .entry)) (now (px .entry)) (now (py .entry)) (now (mass .exit)) (now (px .exit)) (now (py .exit)) ⌝ }
+    requires { ⌜ ParticleReady nx ny (unidentified m x y vx vy bxx bxy byx byy) (now table) (now mass) (now px) (now py) ⌝ }
+    ensures { λ r. ⌜ Added nx ny (unidentified m x y vx vy bxx bxy byx byy ∷ []) (now (mass .entry)) (now (px .entry)) (now (py .entry)) (now (mass .exit)) (now (px .exit)) (now (py .exit)) ⌝ }
 {
     let wx = spline::row(table, (x + 32) % 64);
     let wy = spline::row(table, (y + 32) % 64);

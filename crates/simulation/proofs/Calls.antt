@@ -16,7 +16,7 @@ use Prim.Native.Nat.{ℕ, zero, suc, _+_, _*_}
 use lib.Dec.{ltb}
 use lib.ListN.{length, replicate, length-append, length-replicate}
 use borrow.Author.Tests.{not-false}
-use Rattle.refusal.specs.Refused.{Answer, result, refused, refuseIf}
+use Rattle.refusal.specs.Refused.{Answer, result, refused, refuseIf, either}
 use Rattle.refusal.proofs.Answers.{passed}
 use Rattle.particle.specs.declared.Particle.{Particle}
 use Rattle.apic.specs.Limits.{SetLimits}
@@ -25,7 +25,7 @@ use Rattle.particles.proofs.Checks.{good-entry}
 use Rattle.particles.proofs.Accepted.{accepted-limits}
 use Rattle.update.specs.Checks.{lengthsAre, bothWithin}
 use Rattle.simulation.specs.declared.Settings.{Settings}
-use Rattle.simulation.specs.Step.{Grids, After, either, checkEntry, setIn, stepped, stepOf, nodesOf, stepEntry, stepFrom, stepAfter}
+use Rattle.simulation.specs.Step.{Grids, After, checkEntry, setIn, stepped, stepOf, nodesOf, stepEntry, stepFrom, stepAfter}
 use Rattle.simulation.specs.Run.{Completion, runFrom, runEntry, runAfter}
 use Rattle.simulation.specs.Demand3.{Accepted, Call, step, run, settingsOf, leaves, completes, leavesAll, completesAll, settingsAll, arrives}
 use Rattle.simulation.proofs.Records.{set-particles, records-particles, records-accepted}

@@ -18,7 +18,7 @@ use mir.Syntax.{w64}
 use mir.Val.{SFits, toZ, ofZ, hbits}
 use mir.Facts.{toZ-ofZ}
 use borrow.Author.Tests.{not-false, lt-ltb, le-ltb}
-use Rattle.refusal.specs.Refused.{Answer, result, refused, refusedBy, refuseIf, andThen}
+use Rattle.refusal.specs.Refused.{Answer, result, refused, refusedBy, refuseIf, andThen, either}
 use Rattle.refusal.specs.declared.Refusal.{Refusal}
 use Rattle.refusal.proofs.Answers.{not-result, not-refused, same-refusal, passed, went-on}
 use Rattle.particle.specs.declared.Particle.{Particle}
@@ -30,7 +30,7 @@ use Rattle.update.proofs.Answers.{lengths}
 use Rattle.simulation.specs.declared.Settings.{Settings}
 use Rattle.simulation.specs.declared.Stepped.{Stepped}
 use Rattle.simulation.specs.declared.Stepped.the-variants as stepped
-use Rattle.simulation.specs.Step.{Grids, After, Sees, either, gridsOf, nodesOf, setIn, stepOf, stepEntry, stepFrom, stepAfter, toldStepped}
+use Rattle.simulation.specs.Step.{Grids, After, Sees, gridsOf, nodesOf, setIn, stepOf, stepEntry, stepFrom, stepAfter, toldStepped}
 use Rattle.simulation.specs.Run.{Completion, afterOne, runFrom, runEntry, runAfter}
 use Rattle.simulation.specs.Internal.{RunReady, seen}
 use Rattle.simulation.proofs.Calls.{ready-run}

@@ -15,7 +15,7 @@ use Rattle.refusal.specs.Refused.{result}
 use Rattle.particle.specs.declared.Particle.{Particle}
 use Rattle.apic.specs.Step.{Axis, alongX, alongY}
 use Rattle.unpacked.specs.Unpacked.{unpacked, particlesOf}
-use Rattle.scatter_core.specs.Scatter.{Scattered}
+use Rattle.scatter_core.specs.Scatter.{ScatteredGrids}
 use Rattle.update.specs.Update.{GridLimits, velocities}
 use Rattle.gather_core.specs.declared.Gathered.{Gathered}
 use Rattle.gather_core.specs.declared.Gathered.the-variants.{Done, Refused}
@@ -24,7 +24,7 @@ use Rattle.gather_core.proofs.Checks.{follow, checks-follow}
 use Rattle.gather_core.proofs.Kept.{all-moved}
 use Rattle.simulation.specs.declared.Settings.{Settings}
 use Rattle.simulation.specs.Step.{gravity, masses, momenta, updatedVelocities, move, stepped, stepOf}
-use Rattle.simulation.specs.Internal.{StepReady, StepLeaves, toldMoved}
+use Rattle.simulation.specs.Internal.{StepReady, StepLeaves, toldGatheredTo}
 use Rattle.simulation.proofs.Refusals.{grid-limits, velocity-limits}
 
 module _ {s : Settings} {source : List ℤ} {weights : List (List ℕ)} {mass : List ℕ} {px py target : List ℤ} (ready : StepReady s source weights mass px py target) where
@@ -38,7 +38,7 @@ module _ {s : Settings} {source : List ℤ} {weights : List (List ℕ)} {mass : 
   pub back-y : toZ w64 (ofZ w64 (s .gy)) ≡ s .gy
   back-y = read-size w64 (s .gy) (ready .gravity-y) tt
 
-  module _ {mass₁ : List ℕ} {px₁ py₁ : List ℤ} (scattered : Scattered (s .nx) (s .ny) (particlesOf source) mass₁ px₁ py₁) where
+  module _ {mass₁ : List ℕ} {px₁ py₁ : List ℤ} (scattered : ScatteredGrids (s .nx) (s .ny) (particlesOf source) mass₁ px₁ py₁) where
     mass-is : mass₁ ≡ masses s (particlesOf source)
     unfolding masses
     mass-is = scattered .of-mass
@@ -90,6 +90,6 @@ module _ {s : Settings} {source : List ℤ} {weights : List (List ℕ)} {mass : 
           same : {A : Type 0} (f : List ℤ → List ℤ → A) → f px₂ py₂ ≡ f (updatedVelocities s alongX (particlesOf source)) (updatedVelocities s alongY (particlesOf source))
           same f = ap₂ f ux-is uy-is
 
-          followed : (r : Gathered) (qs : List Particle) → toldMoved r qs ≡ follow (toldGathered r) (result qs)
+          followed : (r : Gathered) (qs : List Particle) → toldGatheredTo r qs ≡ follow (toldGathered r) (result qs)
           followed Done qs = refl
           followed (Refused e) qs = refl

@@ -13,7 +13,7 @@ use native.Mathlib.Numerals.{add-one}
 use native.Mathlib.Omega.{arith}
 use lib.ListN.{length, length-map}
 use lib.IntN.{ℤ}
-use Rattle.refusal.specs.Refused.{Answer, result, refused, refusedBy}
+use Rattle.refusal.specs.Refused.{Answer, result, refused, refusedBy, either}
 use Rattle.refusal.specs.declared.Refusal.{Refusal}
 use Rattle.spline.specs.Answers.{table}
 use Rattle.particle.specs.declared.Particle.{Particle}
@@ -31,9 +31,9 @@ use Rattle.update.specs.Checks.{done}
 use Rattle.simulation.specs.declared.Settings.{Settings}
 use Rattle.simulation.specs.declared.Ran.{Ran}
 use Rattle.simulation.specs.declared.Ran.the-variants.{Done, Stopped}
-use Rattle.simulation.specs.Step.{Grids, After, either, gridsOf, nodesOf, stepped, stepOf}
+use Rattle.simulation.specs.Step.{Grids, After, gridsOf, nodesOf, stepped, stepOf}
 use Rattle.simulation.specs.Run.{Completion, afterOne, runFrom, toldRan}
-use Rattle.simulation.specs.Internal.{StepReady, Turns, Repeats, RunReady, toldMoved, current, other, recordsAfter, completedBy, seen}
+use Rattle.simulation.specs.Internal.{StepReady, Turns, Repeats, RunReady, toldGatheredTo, current, other, recordsAfter, completedBy, seen}
 use Rattle.simulation.proofs.Steps.{completed, limits-after}
 use Rattle.simulation.proofs.Refusals.{grid-limits, velocity-limits}
 use Rattle.simulation.proofs.Particles.{light}
@@ -109,7 +109,7 @@ module _ {s : Settings} {steps : ℕ} {weights : List (List ℕ)} {ps : List Par
           is = λ records.
               sym (
               sym (whole records)
-              ∙ ap (plus k) (run-stops s (steps - suc k) (recordsAfter records k here) here (gridsOf mass px py) (sym (t .step .answer) ∙ ap (λ x. toldMoved x (stepped s here)) c))
+              ∙ ap (plus k) (run-stops s (steps - suc k) (recordsAfter records k here) here (gridsOf mass px py) (sym (t .step .answer) ∙ ap (λ x. toldGatheredTo x (stepped s here)) c))
               ∙ ap (λ n. seen (record { completed = n; stop = refusedBy e }) (recordsAfter records k here) (nodesOf s here)) (add-zero k)
               ∙ ap₂ (λ l g. seen (record { completed = k; stop = refusedBy e }) (recordsAfter records k (particlesOf l)) g) (sym (t .kept)) (sym (t .step .grids))
               );
@@ -117,7 +117,7 @@ module _ {s : Settings} {steps : ℕ} {weights : List (List ℕ)} {ps : List Par
 
     module _ (c : r ≡ gathered.Done) where
       passed : stepOf s here ≡ result (stepped s here)
-      passed = sym (t .step .answer) ∙ ap (λ x. toldMoved x (stepped s here)) c
+      passed = sym (t .step .answer) ∙ ap (λ x. toldGatheredTo x (stepped s here)) c
 
       next : current (suc k) a′ b′ ≡ unpacked (stepped s here)
       next = swap k a′ b′ ∙ t .step .moved c

@@ -8,13 +8,13 @@ use lib.ListN.{length, replicate}
 use lib.IntN.{ℤ, pos, _+ℤ_, _-ℤ_, _*ℤ_}
 use Rattle.arith.specs.Order.{Within}
 use Rattle.arith.specs.Sums.{Each, sumOver}
-use Rattle.refusal.specs.Refused.{result}
+use Rattle.refusal.specs.Refused.{result, either}
 use Rattle.particle.specs.declared.Particle.{Particle}
 use Rattle.apic.specs.Step.{Axis}
 use Rattle.apic.specs.Totals.{totalMass, momentum, angularMomentum, torque, firstMoment}
 use Rattle.particles.specs.Set.{particlesIn, checkAnswer}
 use Rattle.simulation.specs.declared.Settings.{Settings}
-use Rattle.simulation.specs.Step.{Grids, either, gravity, stepped, stepOf, stepAfter}
+use Rattle.simulation.specs.Step.{Grids, gravity, stepped, stepOf, stepAfter}
 use Rattle.simulation.specs.Run.{runAfter}
 
 -- ---- records

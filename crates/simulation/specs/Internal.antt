@@ -31,13 +31,14 @@ pub record StepReady (s : Settings) (source : List ℤ) (weights : List (List �
   pub py-long : length py ≡ s .nx * s .ny
   pub room : length target ≡ length source
 
-abbrev pub toldMoved : Gathered → List Particle → Answer (List Particle)
-toldMoved Done qs = result qs
-toldMoved (Refused e) qs = refusedBy e
+-- what is told of a gather to the particles qs
+abbrev pub toldGatheredTo : Gathered → List Particle → Answer (List Particle)
+toldGatheredTo Done qs = result qs
+toldGatheredTo (Refused e) qs = refusedBy e
 
 pub record StepLeaves (s : Settings) (ps : List Particle) (r : Gathered) (mass : List ℕ) (px py target : List ℤ) : Type 0 where
   pub grids : gridsOf mass px py ≡ nodesOf s ps
-  pub answer : toldMoved r (stepped s ps) ≡ stepOf s ps
+  pub answer : toldGatheredTo r (stepped s ps) ≡ stepOf s ps
   pub moved : r ≡ Done → target ≡ unpacked (stepped s ps)
 
 -- ---- a run, back and forth between two arrays

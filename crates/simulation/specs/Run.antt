@@ -3,14 +3,14 @@
 use mathlib.Core.List.{List}
 use Prim.Native.Nat.{ℕ, zero, suc}
 use lib.Dec.{ltb}
-use Rattle.refusal.specs.Refused.{Answer, refused, refusedBy, refuseIf}
+use Rattle.refusal.specs.Refused.{Answer, refused, refusedBy, refuseIf, either}
 use Rattle.particle.specs.declared.Particle.{Particle}
 use Rattle.particles.specs.Set.{recordsOf}
 use Rattle.update.specs.Checks.{done}
 use Rattle.simulation.specs.declared.Settings.{Settings}
 use Rattle.simulation.specs.declared.Ran.{Ran}
 use Rattle.simulation.specs.declared.Ran.the-variants.{Done, Stopped}
-use Rattle.simulation.specs.Step.{Grids, After, either, checkEntry, setIn, stepOf, nodesOf}
+use Rattle.simulation.specs.Step.{Grids, After, checkEntry, setIn, stepOf, nodesOf}
 
 -- "the number of completed steps, and the first refusal if one stopped it"; `done` where none did
 pub record Completion : Type 0 where

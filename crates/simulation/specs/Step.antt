@@ -6,7 +6,7 @@ use mathlib.Core.List.{List, map}
 use Prim.Native.Nat.{ℕ, _*_}
 use lib.ListN.{length}
 use lib.IntN.{ℤ, pos, natAbs}
-use Rattle.refusal.specs.Refused.{Answer, result, refused, refusedBy, refuseIf}
+use Rattle.refusal.specs.Refused.{Answer, result, refused, refusedBy, refuseIf, either}
 use Rattle.spline.specs.Spline.{axisWeight}
 use Rattle.particle.specs.declared.Particle.{Particle}
 use Rattle.apic.specs.Step.{Axis, alongX, alongY, grid, nodeMass, nodeMomentum}
@@ -75,11 +75,6 @@ pub record Sees {A : Type 0} (after : After A) (told : A) (bytes mass : List ℕ
   pub masses : mass ≡ after .grids .mass
   pub x-velocities : x ≡ after .grids .x
   pub y-velocities : y ≡ after .grids .y
-
--- an answer's two cases
-abbrev pub either : {A B : Type 0} → Answer A → (A → B) → (ℕ → ℕ → B) → B
-either (result a) accept refuse = accept a
-either (refused n k) accept refuse = refuse n k
 
 -- ---- the operation
 

@@ -23,7 +23,7 @@ use Rattle.packing.proofs.Parts.{particles-part}
 use Rattle.packing.proofs.Sets.{count-in, unpacked-set, particlesIn-accepted}
 use Rattle.scatter_block.specs.Lines.{Held}
 use Rattle.scatter_particle.specs.Added.{Added}
-use Rattle.scatter_core.specs.Scatter.{mostAtFirst, SetReady, Scattered}
+use Rattle.scatter_core.specs.Scatter.{mostAtFirst, SetReady, ScatteredGrids}
 use Rattle.scatter_core.proofs.Parts.{limits-part, parts-added, parts-held}
 use Rattle.scatter_core.proofs.Sets.{added-none, cleared-held}
 use Rattle.update.specs.Checks.{done, lengthsAre}
@@ -109,7 +109,7 @@ module _ (nx ny : ℕ) (mass : List ℕ) (px py : List ℤ) where
         let l = lengths (nx * ny) (length mass) (length px) (length py) (a .0) in
         record { particles = ps; set = a .1; mass-long = l .mass-is; px-long = l .px-is; py-long = l .py-is }
 
-    pub done-fills : {mass′ : List ℕ} {px′ py′ : List ℤ} → Scattered nx ny (particlesIn records) mass′ px′ py′ → Fills nx ny (scatterAnswer nx ny records (length mass) (length px) (length py)) mass px py done mass′ px′ py′
+    pub done-fills : {mass′ : List ℕ} {px′ py′ : List ℤ} → ScatteredGrids nx ny (particlesIn records) mass′ px′ py′ → Fills nx ny (scatterAnswer nx ny records (length mass) (length px) (length py)) mass px py done mass′ px′ py′
     unfolding scatter-set
     done-fills {mass′} {px′} {py′} h =
         subst (λ a. Fills nx ny a mass px py done mass′ px′ py′) (ap result (particlesIn-accepted nx ny records (scatter-set .set)) ∙ sym e)

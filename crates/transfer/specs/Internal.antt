@@ -14,12 +14,12 @@ use Rattle.scatter_block.specs.Lines.{Held}
 use Rattle.gather_core.specs.declared.Gathered.{Gathered}
 use Rattle.gather_core.specs.Gather.{gathered, answerFrom, toldGathered, NodeVelocities}
 use Rattle.update.specs.Checks.{done}
-use Rattle.transfer.specs.declared.Entered.{Entered}
-use Rattle.transfer.specs.declared.Entered.the-variants.{Done, Refused}
+use Rattle.transfer.specs.declared.InputChecked.{InputChecked}
+use Rattle.transfer.specs.declared.InputChecked.the-variants.{Done, Refused}
 
-abbrev pub toldEntered : Entered → Answer Unit
-toldEntered Done = done
-toldEntered (Refused e) = refusedBy e
+abbrev pub toldInputChecked : InputChecked → Answer Unit
+toldInputChecked Done = done
+toldInputChecked (Refused e) = refusedBy e
 
 -- a set that is accepted on this grid, and grids of its size
 pub record ScatterSet (nx ny : ℕ) (records mass : List ℕ) (px py : List ℤ) : Type 0 where

@@ -7,7 +7,7 @@ use Prim.Native.Nat.{ℕ, _*_}
 use lib.Dec.{eqb}
 use lib.ListN.{length, getD}
 use lib.IntN.{ℤ, pos, natAbs}
-use Rattle.refusal.specs.Refused.{Answer, result, refused, refusedBy, refuseIf, andThen}
+use Rattle.refusal.specs.Refused.{Answer, result, refusedBy, refuseIf, andThen, either}
 use Rattle.particle.specs.declared.Particle.{Particle}
 use Rattle.apic.specs.Step.{alongX, alongY, grid}
 use Rattle.particles.specs.Set.{validSize, validLength, recordCount, setOf, recordsOf}
@@ -31,11 +31,6 @@ toldMoved (moved.Refused e) = refusedBy e
 abbrev pub toldOf : {A : Type 0} → Answer A → Answer Unit
 toldOf a = andThen a (λ _. done)
 
--- what a call leaves: one thing where it has a result, and another where it is refused
-abbrev pub either : {A B : Type 0} → Answer A → (A → B) → B → B
-either (result a) changed kept = changed a
-either (refused n k) changed kept = kept
-
 -- 2; 1, also where a grid buffer has another length; then the set
 unfoldable pub entryAnswer : ℕ → ℕ → List ℕ → Bool → Answer (List Particle)
 entryAnswer nx ny records lengths =
@@ -52,9 +47,9 @@ scatterAnswer nx ny records mass px py = entryAnswer nx ny records (lengthsAre (
 -- what is told of an answer, and the three grids that are left: masses and momenta of its particles, or what they were
 pub record Fills (nx ny : ℕ) (a : Answer (List Particle)) (mass : List ℕ) (px py : List ℤ) (told : Answer Unit) (mass′ : List ℕ) (px′ py′ : List ℤ) : Type 0 where
   pub answer : told ≡ toldOf a
-  pub mass-is : mass′ ≡ either a (λ ps. grid nx ny (λ i j. natAbs (massAt ps i j))) mass
-  pub px-is : px′ ≡ either a (λ ps. grid nx ny (momentumAt alongX ps)) px
-  pub py-is : py′ ≡ either a (λ ps. grid nx ny (momentumAt alongY ps)) py
+  pub mass-is : mass′ ≡ either a (λ ps. grid nx ny (λ i j. natAbs (massAt ps i j))) (λ n k. mass)
+  pub px-is : px′ ≡ either a (λ ps. grid nx ny (momentumAt alongX ps)) (λ n k. px)
+  pub py-is : py′ ≡ either a (λ ps. grid nx ny (momentumAt alongY ps)) (λ n k. py)
 
 abbrev pub ScatterIs : ℕ → ℕ → List ℕ → List ℕ → List ℤ → List ℤ → Answer Unit → List ℕ → List ℤ → List ℤ → Type 0
 ScatterIs nx ny records mass px py told mass′ px′ py′ =
@@ -85,7 +80,7 @@ gatherAnswer nx ny records ux uy = andThen (checkedSet nx ny records ux uy) (λ 
 -- what is told of an answer, and the records that are left: those of its particles, or what they were
 pub record Moves (a : Answer (List Particle)) (records : List ℕ) (told : Answer Unit) (records′ : List ℕ) : Type 0 where
   pub answer : told ≡ toldOf a
-  pub records-are : records′ ≡ either a recordsOf records
+  pub records-are : records′ ≡ either a recordsOf (λ n k. records)
 
 abbrev pub GatherIs : ℕ → ℕ → List ℕ → List ℤ → List ℤ → Answer Unit → List ℕ → Type 0
 GatherIs nx ny records ux uy told records′ = Moves (gatherAnswer nx ny records ux uy) records told records′

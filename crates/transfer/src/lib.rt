@@ -10,11 +10,10 @@ ghost use Prim.Native.Nat.{_*_, _≤_};
 ghost use lib.ListN.{length};
 ghost use Rattle.particles.specs.Set.{recordCount, particlesIn};
 ghost use Rattle.update.specs.Checks.{lengthsAre};
-ghost use Rattle.scatter_core.specs.Scatter.{mostAtFirst};
-ghost use Rattle.scatter_core.specs.Scatter as core;
+ghost use Rattle.scatter_core.specs.Scatter.{mostAtFirst, ScatteredGrids};
 ghost use Rattle.scatter_particle.specs.Added.{Added};
 ghost use Rattle.transfer.specs.Transfer.{toldScattered, toldMoved, toldOf, entryAnswer, velocityChecks, checkedSet, moveAnswer, Moves, ScatterIs, GatherIs};
-ghost use Rattle.transfer.specs.Internal.{toldEntered, ScatterSet, AddReady, GatherSet, MoveReady, PartRoom, SetRoom, MovedFrom};
+ghost use Rattle.transfer.specs.Internal.{toldInputChecked, ScatterSet, AddReady, GatherSet, MoveReady, PartRoom, SetRoom, MovedFrom};
 
 // A set is worked on in parts of so many records, which have so many bytes and numbers.
 const PART: usize = 64;
@@ -38,27 +37,34 @@ pub enum Moved {
 }
 
 // The answer of the checks that they begin with.
-enum Entered {
+enum InputChecked {
     Done,
     Refused(Refusal),
 }
 
 // The checks that both transfers begin with: sizes, lengths and the set. A caller with two grid buffers gives one length twice.
-fn check_entry(nx: usize, ny: usize, records: &[u8], mass: usize, px: usize, py: usize) -> Entered
-    ensures { λ r. ⌜ toldEntered r ≡ toldOf (entryAnswer nx ny (now (records .entry)) (lengthsAre (nx * ny) mass px py)) ⌝ }
+fn check_entry(
+    nx: usize,
+    ny: usize,
+    records: &[u8],
+    mass: usize,
+    px: usize,
+    py: usize,
+) -> InputChecked
+    ensures { λ r. ⌜ toldInputChecked r ≡ toldOf (entryAnswer nx ny (now (records .entry)) (lengthsAre (nx * ny) mass px py)) ⌝ }
 {
     if !particles::size_is_valid(nx, ny) {
-        return Entered::Refused(Refusal::GridSize);
+        return InputChecked::Refused(Refusal::GridSize);
     }
     if !particles::length_is_valid(records.len()) {
-        return Entered::Refused(Refusal::Length);
+        return InputChecked::Refused(Refusal::Length);
     }
     if !update::checks::lengths_are(nx * ny, mass, px, py) {
-        return Entered::Refused(Refusal::Length);
+        return InputChecked::Refused(Refusal::Length);
     }
     match particles::check(nx, ny, records, 0, records.len() / RECORD_LENGTH) {
-        Checked::Records(_) => Entered::Done,
-        Checked::Refused(refusal) => Entered::Refused(refusal),
+        Checked::Records(_) => InputChecked::Done,
+        Checked::Refused(refusal) => InputChecked::Refused(refusal),
     }
 }
 
@@ -133,7 +139,7 @@ fn scatter_set(
     py: &mut [i64],
 )
     requires { ⌜ ScatterSet nx ny (now records) (now mass) (now px) (now py) ⌝ }
-    ensures { λ _. ⌜ core.Scattered nx ny (particlesIn (now (records .entry))) (now (mass .exit)) (now (px .exit)) (now (py .exit)) ⌝ }
+    ensures { λ _. ⌜ ScatteredGrids nx ny (particlesIn (now (records .entry))) (now (mass .exit)) (now (px .exit)) (now (py .exit)) ⌝ }
 {
     let table = spline::weight_table();
     let mut array = [0i64; PART_NUMBERS];
@@ -156,8 +162,8 @@ pub fn scatter(
     ensures { λ r. ⌜ ScatterIs nx ny (now (records .entry)) (now (mass .entry)) (now (px .entry)) (now (py .entry)) (toldScattered r) (now (mass .exit)) (now (px .exit)) (now (py .exit)) ⌝ }
 {
     match check_entry(nx, ny, records, mass.len(), px.len(), py.len()) {
-        Entered::Refused(refusal) => Scattered::Refused(refusal),
-        Entered::Done => {
+        InputChecked::Refused(refusal) => Scattered::Refused(refusal),
+        InputChecked::Done => {
             scatter_set(nx, ny, records, mass, px, py);
             Scattered::Done
         }
@@ -165,27 +171,27 @@ pub fn scatter(
 }
 
 // Looks at the velocity of every node. `check_gather` calls it.
-fn check_velocities(count: usize, ux: &[i64], uy: &[i64]) -> Entered
+fn check_velocities(count: usize, ux: &[i64], uy: &[i64]) -> InputChecked
     requires { ⌜ (length (now ux) ≡ count) × (length (now uy) ≡ count) ⌝ }
-    ensures { λ r. ⌜ toldEntered r ≡ velocityChecks count (now (ux .entry)) (now (uy .entry)) ⌝ }
+    ensures { λ r. ⌜ toldInputChecked r ≡ velocityChecks count (now (ux .entry)) (now (uy .entry)) ⌝ }
 {
     let mut k = 0;
     while k < count {
         if !update::checks::both_within(ux[k], uy[k], MOST_VELOCITY) {
-            return Entered::Refused(Refusal::NodeVelocity(k));
+            return InputChecked::Refused(Refusal::NodeVelocity(k));
         }
         k += 1;
     }
-    Entered::Done
+    InputChecked::Done
 }
 
 // The checks of a gather before any particle moves.
-fn check_gather(nx: usize, ny: usize, records: &[u8], ux: &[i64], uy: &[i64]) -> Entered
-    ensures { λ r. ⌜ toldEntered r ≡ toldOf (checkedSet nx ny (now (records .entry)) (now (ux .entry)) (now (uy .entry))) ⌝ }
+fn check_gather(nx: usize, ny: usize, records: &[u8], ux: &[i64], uy: &[i64]) -> InputChecked
+    ensures { λ r. ⌜ toldInputChecked r ≡ toldOf (checkedSet nx ny (now (records .entry)) (now (ux .entry)) (now (uy .entry))) ⌝ }
 {
     match check_entry(nx, ny, records, ux.len(), ux.len(), uy.len()) {
-        Entered::Refused(refusal) => Entered::Refused(refusal),
-        Entered::Done => check_velocities(ux.len(), ux, uy),
+        InputChecked::Refused(refusal) => InputChecked::Refused(refusal),
+        InputChecked::Done => check_velocities(ux.len(), ux, uy),
     }
 }
 
@@ -343,7 +349,7 @@ pub fn gather(nx: usize, ny: usize, records: &mut [u8], ux: &[i64], uy: &[i64]) 
     ensures { λ r. ⌜ GatherIs nx ny (now (records .entry)) (now (ux .entry)) (now (uy .entry)) (toldMoved r) (now (records .exit)) ⌝ }
 {
     match check_gather(nx, ny, records, ux, uy) {
-        Entered::Refused(refusal) => Moved::Refused(refusal),
-        Entered::Done => gather_set(nx, ny, records, ux, uy),
+        InputChecked::Refused(refusal) => Moved::Refused(refusal),
+        InputChecked::Done => gather_set(nx, ny, records, ux, uy),
     }
 }

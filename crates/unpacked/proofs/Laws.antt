@@ -1,7 +1,7 @@
 -- The laws of particles in an array.
 --     getD-tabulated          what stands at place k of a tabulated list
 --     length-unpacked         ten numbers for each particle
---     NumbersAt, numbers-at   the ten numbers of the k-th particle
+--     numbers-at              the ten numbers of the k-th particle
 --     particlesOf-unpacked    what is unpacked is read back
 --     count .. limits-at      an array that holds a particle set: its length, its particles, their numbers and limits
 --     stored, take-stored     ten numbers written behind those of k particles are one particle more
@@ -19,7 +19,7 @@ use lib.IntN.{ℤ, pos, natAbs}
 use Rattle.arith.specs.Sums.{Each, from, upTo, length-from}
 use Rattle.particle.specs.declared.Particle.{Particle}
 use Rattle.apic.specs.Limits.{ParticleLimits}
-use Rattle.unpacked.specs.Unpacked.{numbers, unpacked, particleAt, particlesOf, UnpackedSet}
+use Rattle.unpacked.specs.Unpacked.{numbers, unpacked, particleAt, NumbersAt, particlesOf, UnpackedSet}
 
 -- ---- lists
 
@@ -63,19 +63,6 @@ getD-unpacked (p ∷ ps) (suc k) f d h g =
   where
     next : (k f : ℕ) → 10 * suc k + f ≡ 10 + (10 * k + f)
     next k f = omega arith
-
--- the numbers of p stand from place 10·k on
-pub record NumbersAt (l : List ℤ) (k : ℕ) (p : Particle) : Type 0 where
-  pub identifier : getD l (10 * k) (pos 0) ≡ pos (p .identifier)
-  pub mass : getD l (10 * k + 1) (pos 0) ≡ pos (p .mass)
-  pub x : getD l (10 * k + 2) (pos 0) ≡ pos (p .x)
-  pub y : getD l (10 * k + 3) (pos 0) ≡ pos (p .y)
-  pub vx : getD l (10 * k + 4) (pos 0) ≡ p .vx
-  pub vy : getD l (10 * k + 5) (pos 0) ≡ p .vy
-  pub bxx : getD l (10 * k + 6) (pos 0) ≡ p .bxx
-  pub bxy : getD l (10 * k + 7) (pos 0) ≡ p .bxy
-  pub byx : getD l (10 * k + 8) (pos 0) ≡ p .byx
-  pub byy : getD l (10 * k + 9) (pos 0) ≡ p .byy
 
 pub numbers-at : (ps : List Particle) (k : ℕ) (d : Particle) → k < length ps → NumbersAt (unpacked ps) k (getD ps k d)
 numbers-at ps k d h =

@@ -44,6 +44,19 @@ particleAt l k =
       byy = getD l (10 * k + 9) (pos 0);
     }
 
+-- the numbers of p stand from place 10·k on
+pub record NumbersAt (l : List ℤ) (k : ℕ) (p : Particle) : Type 0 where
+  pub identifier : getD l (10 * k) (pos 0) ≡ pos (p .identifier)
+  pub mass : getD l (10 * k + 1) (pos 0) ≡ pos (p .mass)
+  pub x : getD l (10 * k + 2) (pos 0) ≡ pos (p .x)
+  pub y : getD l (10 * k + 3) (pos 0) ≡ pos (p .y)
+  pub vx : getD l (10 * k + 4) (pos 0) ≡ p .vx
+  pub vy : getD l (10 * k + 5) (pos 0) ≡ p .vy
+  pub bxx : getD l (10 * k + 6) (pos 0) ≡ p .bxx
+  pub bxy : getD l (10 * k + 7) (pos 0) ≡ p .bxy
+  pub byx : getD l (10 * k + 8) (pos 0) ≡ p .byx
+  pub byy : getD l (10 * k + 9) (pos 0) ≡ p .byy
+
 -- the particles of an array
 unfoldable pub particlesOf : List ℤ → List Particle
 particlesOf l = map (λ k. particleAt l k) (upTo (length l / 10))

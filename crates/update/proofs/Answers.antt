@@ -11,12 +11,12 @@ use lib.IntN.{ℤ}
 use mir.Syntax.{w64}
 use mir.Val.{Fits}
 use borrow.Author.Tests.{eqb-true, le-leb, eq-eqb}
-use Rattle.refusal.specs.Refused.{refused, refuseIf}
+use Rattle.refusal.specs.Refused.{refused, refuseIf, keptUnless}
 use Rattle.apic.specs.Limits.{SizeLimits}
 use Rattle.particles.specs.Set.{validSize}
 use Rattle.particles.proofs.Checks.{size-limits}
 use Rattle.update.specs.Checks.{lengthsAre, bothWithin, done}
-use Rattle.update.specs.Update.{checkNodes, velocities, GridLimits, updateAnswer, updatedGrid, UpdateIs}
+use Rattle.update.specs.Update.{checkNodes, velocities, GridLimits, updateAnswer, UpdateIs}
 use Rattle.update.proofs.Walk.{and-true, both-within, within-both, limits-nodes, nodes-limits}
 
 -- ---- what the tests tell
@@ -70,16 +70,16 @@ module _ (nx ny : ℕ) (gx gy : ℤ) (mass : List ℕ) (px py : List ℤ) where
   refused-is e =
       record {
         answer = sym e;
-        px-is = ap (λ a. updatedGrid a (velocities (nx * ny) gx mass px) px) (sym e);
-        py-is = ap (λ a. updatedGrid a (velocities (nx * ny) gy mass py) py) (sym e);
+        px-is = ap (λ a. keptUnless a (velocities (nx * ny) gx mass px) px) (sym e);
+        py-is = ap (λ a. keptUnless a (velocities (nx * ny) gy mass py) py) (sym e);
       }
 
   pub done-is : {px-after py-after : List ℤ} → updateAnswer nx ny gx gy mass px py ≡ done → px-after ≡ velocities (nx * ny) gx mass px → py-after ≡ velocities (nx * ny) gy mass py → UpdateIs nx ny gx gy mass px py done px-after py-after
   done-is e x y =
       record {
         answer = sym e;
-        px-is = x ∙ ap (λ a. updatedGrid a (velocities (nx * ny) gx mass px) px) (sym e);
-        py-is = y ∙ ap (λ a. updatedGrid a (velocities (nx * ny) gy mass py) py) (sym e);
+        px-is = x ∙ ap (λ a. keptUnless a (velocities (nx * ny) gx mass px) px) (sym e);
+        py-is = y ∙ ap (λ a. keptUnless a (velocities (nx * ny) gy mass py) py) (sym e);
       }
 
   -- ---- the limits

@@ -9,7 +9,7 @@ use lib.ListN.{length, getD}
 use lib.IntN.{ℤ, pos, natAbs}
 use Rattle.arith.specs.Sums.{upTo}
 use Rattle.arith.specs.Rounding.{nearest, halvesAway}
-use Rattle.refusal.specs.Refused.{Answer, result, refused, refusedBy, refuseIf}
+use Rattle.refusal.specs.Refused.{Answer, refusedBy, refuseIf, keptUnless}
 use Rattle.apic.specs.Step.{nodeVelocity}
 use Rattle.particles.specs.Set.{validSize}
 use Rattle.update.specs.declared.Updated.{Updated}
@@ -76,13 +76,8 @@ updateAnswer nx ny gx gy mass px py =
     (checkLengths (nx * ny) (length mass) (length px) (length py)
     (checkGravity gx gy (checkNodes (nx * ny) gx gy mass px py)))
 
--- a momentum grid afterwards: velocity takes the momentum's place; a refused call leaves it unchanged
-abbrev pub updatedGrid : Answer Unit → List ℤ → List ℤ → List ℤ
-updatedGrid (result _) velocity momentum = velocity
-updatedGrid (refused n k) velocity momentum = momentum
-
--- the answer of a call, and both grids as it leaves them
+-- the answer of a call, and both grids as it leaves them: velocity takes the momentum's place; a refused call leaves it unchanged
 pub record UpdateIs (nx ny : ℕ) (gx gy : ℤ) (mass : List ℕ) (px py : List ℤ) (told : Answer Unit) (px-after py-after : List ℤ) : Type 0 where
   pub answer : told ≡ updateAnswer nx ny gx gy mass px py
-  pub px-is : px-after ≡ updatedGrid (updateAnswer nx ny gx gy mass px py) (velocities (nx * ny) gx mass px) px
-  pub py-is : py-after ≡ updatedGrid (updateAnswer nx ny gx gy mass px py) (velocities (nx * ny) gy mass py) py
+  pub px-is : px-after ≡ keptUnless (updateAnswer nx ny gx gy mass px py) (velocities (nx * ny) gx mass px) px
+  pub py-is : py-after ≡ keptUnless (updateAnswer nx ny gx gy mass px py) (velocities (nx * ny) gy mass py) py

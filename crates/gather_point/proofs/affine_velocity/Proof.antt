@@ -10,15 +10,15 @@ use borrow.Author.Needs.{needs}
 use Rattle.arith.specs.Size.{Bound, bound-widen, bound-equal}
 use Rattle.arith.specs.Machine.{read, read-bound, read-result}
 use Rattle.arith.specs.Rounding.{nearest, halvesAway, nearest-bound}
-use Rattle.gather_point.specs.Point.{velocityOf, momentOf}
+use Rattle.gather_point.specs.Point.{affineVelocityOf, momentAbout}
 use Rattle.gather_point.proofs.affine_velocity.Statement.{statement}
 use Rattle.gather_point.proofs.affine_velocity.Tie as tie
 
 -- one entry of B: the calls of `moment` and `rounded`
-entry : {sum tilt q m r : ℤ} → Bound sum 9007199254740992 → Bound tilt 9007199254740992 → Bound q 32 → (m ≡ momentOf (toZ w64 (ofZ w64 sum)) (toZ w64 (ofZ w64 tilt)) (toZ w64 (ofZ w64 q))) × Bound m 1152921504606846976 → mag r < 2 ^ hbits w64 → r ≡ nearest halvesAway (toZ w64 (ofZ w64 m)) (2 ^ 34) → toZ w64 (ofZ w64 r) ≡ nearest halvesAway (momentOf sum tilt q) (2 ^ 34)
+entry : {sum tilt q m r : ℤ} → Bound sum 9007199254740992 → Bound tilt 9007199254740992 → Bound q 32 → (m ≡ momentAbout (toZ w64 (ofZ w64 sum)) (toZ w64 (ofZ w64 tilt)) (toZ w64 (ofZ w64 q))) × Bound m 1152921504606846976 → mag r < 2 ^ hbits w64 → r ≡ nearest halvesAway (toZ w64 (ofZ w64 m)) (2 ^ 34) → toZ w64 (ofZ w64 r) ≡ nearest halvesAway (momentAbout sum tilt q) (2 ^ 34)
 entry h k l m ok e =
     read-result w64 ok
-    (e ∙ ap (λ z. nearest halvesAway z (2 ^ 34)) (read w64 (m .1) tt ∙ m .0 ∙ (λ i. momentOf (read w64 h tt i) (read w64 k tt i) (read w64 l tt i))))
+    (e ∙ ap (λ z. nearest halvesAway z (2 ^ 34)) (read w64 (m .1) tt ∙ m .0 ∙ (λ i. momentAbout (read w64 h tt i) (read w64 k tt i) (read w64 l tt i))))
 
 rounded-requires : tie.Need-rounded-requires
 rounded-requires c κs = bound-widen (lit≤ tt) (read-bound w64 (c .before .pre .0 .sum-size) tt)
@@ -36,7 +36,7 @@ rounded-requires-3 : tie.Need-rounded-requires-3
 rounded-requires-3 c κs = search needs
 
 returns : tie.Need-returns
-unfolding velocityOf
+unfolding affineVelocityOf
 returns c =
     let d = c .before in
     let e = d .before .before .before in

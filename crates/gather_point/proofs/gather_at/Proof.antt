@@ -3,7 +3,7 @@ use mathlib.Core.Path.{_∙_}
 use mir.Syntax.{w64}
 use borrow.Author.Needs.{needs}
 use Rattle.arith.specs.Machine.{read-result}
-use Rattle.gather_point.specs.Point.{velocityOf, nineNodes, axisAt}
+use Rattle.gather_point.specs.Point.{affineVelocityOf, nineNodes, axisAt}
 use Rattle.gather_point.proofs.gather_at.Statement.{statement}
 use Rattle.gather_point.proofs.gather_at.Tie as tie
 
@@ -47,8 +47,8 @@ returns c =
     let qx = read-result w64 (p .offset-of .ok) (p .offset-of .ensures .0) in
     let qy = read-result w64 (q .offset-of2 .ok) (q .offset-of2 .ensures .0) in
     record {
-      x-is = g .gather-axis .ensures .0 ∙ (λ i. velocityOf (nineNodes (v .row .ensures i) (w .row2 .ensures i) (s .nx) (s .ux .now) (f .first-node .ensures i)) (qx i) (qy i));
-      y-is = c .gather-axis2 .ensures .0 ∙ (λ i. velocityOf (nineNodes (v .row .ensures i) (w .row2 .ensures i) (s .nx) (s .uy .now) (f .first-node .ensures i)) (qx i) (qy i));
+      x-is = g .gather-axis .ensures .0 ∙ (λ i. affineVelocityOf (nineNodes (v .row .ensures i) (w .row2 .ensures i) (s .nx) (s .ux .now) (f .first-node .ensures i)) (qx i) (qy i));
+      y-is = c .gather-axis2 .ensures .0 ∙ (λ i. affineVelocityOf (nineNodes (v .row .ensures i) (w .row2 .ensures i) (s .nx) (s .uy .now) (f .first-node .ensures i)) (qx i) (qy i));
       x-size = g .gather-axis .ensures .1;
       y-size = c .gather-axis2 .ensures .1;
     }

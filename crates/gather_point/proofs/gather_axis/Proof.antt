@@ -2,7 +2,7 @@
 use mathlib.Core.Path.{_∙_}
 use mir.Facts.{toZ-ofZ}
 use borrow.Author.Needs.{needs}
-use Rattle.gather_point.specs.Point.{velocityOf, nineNodes, blockOf}
+use Rattle.gather_point.specs.Point.{affineVelocityOf, nineNodes, blockOf}
 use Rattle.gather_point.proofs.gather_axis.Statement.{statement}
 use Rattle.gather_point.proofs.gather_axis.Tie as tie
 
@@ -39,8 +39,8 @@ returns c =
     let l = m .before in
     let s = l .before in (
       c .affine-velocity .ensures .0
-          ∙ (λ i. velocityOf (b .three-rows .ensures .0 i) (toZ-ofZ (s .fits .qx) i) (toZ-ofZ (s .fits .qy) i))
-          ∙ (λ i. velocityOf (blockOf (s .args .wy) (l .row-shares .ensures .0 i) (m .row-shares2 .ensures .0 i) (u .row-shares3 .ensures .0 i)) (s .args .qx) (s .args .qy)),
+          ∙ (λ i. affineVelocityOf (b .three-rows .ensures .0 i) (toZ-ofZ (s .fits .qx) i) (toZ-ofZ (s .fits .qy) i))
+          ∙ (λ i. affineVelocityOf (blockOf (s .args .wy) (l .row-shares .ensures .0 i) (m .row-shares2 .ensures .0 i) (u .row-shares3 .ensures .0 i)) (s .args .qx) (s .args .qy)),
       c .affine-velocity .ensures .1,
     )
 

@@ -5,8 +5,8 @@ use Prim.Native.Nat.{_+_, _*_}
 use native.Mathlib.Omega.{arith}
 use borrow.Rule.Slice.PartMut.{mid-len}
 use denote.Ref.{now}
-use Rattle.particle.specs.Record.{recordOf}
-use Rattle.particle.proofs.Valid.{Valid, valid-write}
+use Rattle.particle.specs.Record.{recordOf, Valid}
+use Rattle.particle.proofs.Valid.{valid-write}
 use Rattle.packing.proofs.Filling.{part-placed}
 use Rattle.packing.proofs.pack_particle.Statement.{statement}
 use Rattle.packing.proofs.pack_particle.Tie as tie

@@ -1,7 +1,7 @@
 -- `transfer::gather` meets its contract. Assumes nothing.
 use mathlib.Core.Path.{sym, ap, _∙_}
 use Rattle.refusal.proofs.Answers.{went-on}
-use Rattle.transfer.specs.Internal.{toldEntered}
+use Rattle.transfer.specs.Internal.{toldInputChecked}
 use Rattle.transfer.proofs.Entry.{kept-refusal}
 use Rattle.transfer.proofs.Gathers.{stopped, gather-set, moved-on}
 use borrow.Author.Needs.{needs}
@@ -20,7 +20,7 @@ enum-told c = search needs
 gather-set-requires : tie.Need-gather-set-requires
 gather-set-requires c κs =
     let s = c .before .before .before .before .before .before .args in
-    let a = went-on _ _ (sym (c .before .before .before .check-gather .ensures) ∙ ap toldEntered (c .before .enum-told .given .1)) in
+    let a = went-on _ _ (sym (c .before .before .before .check-gather .ensures) ∙ ap toldInputChecked (c .before .enum-told .given .1)) in
     gather-set (s .nx) (s .ny) (s .records .now) (s .ux .now) (s .uy .now) (a .1)
 
 same-length : tie.Need-same-length
@@ -30,7 +30,7 @@ returns : tie.Need-returns
 returns c =
     let s = c .before .before .before .before .before .before .args in
     stopped (s .nx) (s .ny) (s .records .now) (s .ux .now) (s .uy .now)
-    (kept-refusal _ (λ _. tt) (sym (c .before .before .before .check-gather .ensures) ∙ ap toldEntered (c .before .refusal .given .1)))
+    (kept-refusal _ (λ _. tt) (sym (c .before .before .before .check-gather .ensures) ∙ ap toldInputChecked (c .before .refusal .given .1)))
 
 same-length-2 : tie.Need-same-length-2
 same-length-2 c = search needs
@@ -38,7 +38,7 @@ same-length-2 c = search needs
 returns-2 : tie.Need-returns-2
 returns-2 c =
     let s = c .before .before .before .before .before .before .before .before .before .args in
-    let a = went-on _ _ (sym (c .before .before .before .before .before .before .check-gather .ensures) ∙ ap toldEntered (c .before .before .before .before .enum-told .given .1)) in
+    let a = went-on _ _ (sym (c .before .before .before .before .before .before .check-gather .ensures) ∙ ap toldInputChecked (c .before .before .before .before .enum-told .given .1)) in
     moved-on (s .nx) (s .ny) (s .records .now) (s .ux .now) (s .uy .now) (a .1) (c .before .before .gather-set .ensures)
 
 pub gather-spec : {M : Type 1} → statement M

@@ -1,7 +1,7 @@
 -- `transfer::scatter` meets its contract. Assumes nothing.
 use mathlib.Core.Path.{sym, ap, _∙_}
 use Rattle.refusal.proofs.Answers.{went-on}
-use Rattle.transfer.specs.Internal.{toldEntered}
+use Rattle.transfer.specs.Internal.{toldInputChecked}
 use Rattle.transfer.proofs.Entry.{kept-refusal}
 use Rattle.transfer.proofs.Scatters.{refused-fills, scatter-set, done-fills}
 use borrow.Author.Needs.{needs}
@@ -19,12 +19,12 @@ enum-told c = search needs
 
 scatter-set-requires : tie.Need-scatter-set-requires
 scatter-set-requires c κs =
-    let a = went-on _ _ (sym (c .before .before .before .before .before .check-entry .ensures) ∙ ap toldEntered (c .before .before .before .enum-told .given .1)) in
+    let a = went-on _ _ (sym (c .before .before .before .before .before .check-entry .ensures) ∙ ap toldInputChecked (c .before .before .before .enum-told .given .1)) in
     scatter-set _ _ _ _ _ _ (a .1)
 
 returns : tie.Need-returns
 returns c =
-    refused-fills _ _ _ _ _ (kept-refusal _ (λ _. tt) (sym (c .before .before .before .check-entry .ensures) ∙ ap toldEntered (c .before .refusal .given .1)))
+    refused-fills _ _ _ _ _ (kept-refusal _ (λ _. tt) (sym (c .before .before .before .check-entry .ensures) ∙ ap toldInputChecked (c .before .refusal .given .1)))
 
 same-length : tie.Need-same-length
 same-length c = search needs
@@ -37,7 +37,7 @@ same-length-3 c = search needs
 
 returns-2 : tie.Need-returns-2
 returns-2 c =
-    let a = went-on _ _ (sym (c .before .before .before .before .before .before .before .before .before .before .check-entry .ensures) ∙ ap toldEntered (c .before .before .before .before .before .before .before .before .enum-told .given .1)) in
+    let a = went-on _ _ (sym (c .before .before .before .before .before .before .before .before .before .before .check-entry .ensures) ∙ ap toldInputChecked (c .before .before .before .before .before .before .before .before .enum-told .given .1)) in
     done-fills _ _ _ _ _ _ (a .1) (c .before .before .before .before .scatter-set .ensures)
 
 pub scatter-spec : {M : Type 1} → statement M
