@@ -16,12 +16,12 @@ use mathlib.Core.List.{List, _++_, append-nil}
 use lib.IntN.{ℤ, pos}
 use lib.ListN.{length, replicate, take, drop, length-append, length-drop, length-replicate, drop-of-length-le}
 use lib.Seq.{length-take-le, take-all, drop-at}
-use Rattle.refusal.specs.Refused.{Answer}
+use Rattle.refusal.specs.Refused.{Answer, either}
 use Rattle.apic.specs.Limits.{SizeLimits}
 use Rattle.particles.proofs.Checks.{size-limits, entered}
 use Rattle.simulation.specs.declared.Settings.{Settings}
 use Rattle.simulation.specs.declared.Ran.{Ran}
-use Rattle.simulation.specs.Step.{Grids, Sees, either, gridsOf}
+use Rattle.simulation.specs.Step.{Grids, Sees, gridsOf}
 use Rattle.simulation.specs.Run.{Completion, runAfter, toldRan}
 use Rattle.bath_file.specs.declared.Header.{Header}
 use Rattle.bath_file.specs.Layout.{headerLength}

@@ -8,8 +8,7 @@ use mathlib.Core.List.{List}
 use borrow.Author.Tests.{le-ltb}
 use lib.ListN.{length, take}
 use lib.Seq.{take-all, take-take, length-take-le}
-use Rattle.refusal.specs.Refused.{Answer, result, refused, andThen}
-use Rattle.simulation.specs.Step.{either}
+use Rattle.refusal.specs.Refused.{Answer, result, refused, andThen, either}
 use Rattle.bath_file.specs.declared.Header.{Header}
 use Rattle.bath_file.specs.Layout.{headerLength}
 use Rattle.bath_file.specs.File.{headerAnswer, recordsAnswer, fileAnswer}

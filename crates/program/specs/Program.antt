@@ -10,9 +10,10 @@ use mathlib.Core.Bool.{Bool, true, false}
 use mathlib.Core.List.{List, _++_}
 use lib.IntN.{pos}
 use lib.ListN.{length, replicate, take, drop}
+use Rattle.refusal.specs.Refused.{either}
 use Rattle.particles.specs.Set.{particlesIn, totalsOf}
 use Rattle.simulation.specs.declared.Settings.{Settings}
-use Rattle.simulation.specs.Step.{Grids, After, either, gridsOf}
+use Rattle.simulation.specs.Step.{Grids, After, gridsOf}
 use Rattle.simulation.specs.Run.{Completion, runAfter}
 use Rattle.bath_file.specs.declared.Header.{Header}
 use Rattle.bath_file.specs.Layout.{headerLength}
