@@ -22,7 +22,7 @@ use Rattle.simulation.specs.Internal.{seen}
 use Rattle.simulation.proofs.Refusals.{grid-limits, velocity-limits}
 use Rattle.simulation.proofs.Steps.{step-result, completed, limits-after}
 use Rattle.composition.specs.Repeated.{thenRun, RunIsSteps}
-use Rattle.composition.proofs.Entry.{whole-grids, known}
+use Rattle.composition.proofs.Entry.{whole-grids, step-from, known}
 
 -- stopped before its first step
 abbrev stopped : ℕ → ℕ → List ℕ → Grids → After Completion
@@ -36,10 +36,6 @@ module _ (s : Settings) (records : List ℕ) (grids : Grids) where
   run-from : (n : ℕ) → n ≤ 10000 → {a : Answer (List Particle)} → stepEntry s records grids ≡ a → runAfter s n records grids ≡ either a (λ ps. runFrom s n records ps grids) (λ k p. stopped k p records grids)
   unfolding runAfter
   run-from n h e = ap (λ a. either a (λ ps. runFrom s n records ps grids) (λ k p. stopped k p records grids)) (run-entry n h ∙ e)
-
-  step-from : {a : Answer (List Particle)} → stepEntry s records grids ≡ a → stepAfter s records grids ≡ either a (λ ps. stepFrom s records ps) (λ k p. seen (refused k p) records grids)
-  unfolding stepAfter
-  step-from e = ap (λ a. either a (λ ps. stepFrom s records ps) (λ k p. seen (refused k p) records grids)) e
 
 module _ (s : Settings) (records : List ℕ) (grids : Grids) where
   module _ {ps : List Particle} (e : stepEntry s records grids ≡ result ps) {qs : List Particle} (m : stepOf s ps ≡ result qs) where

@@ -31,7 +31,7 @@ use Rattle.simulation.specs.Internal.{seen}
 use Rattle.simulation.proofs.Refusals as refusals
 use Rattle.simulation.proofs.Refusals.{velocity-limits}
 use Rattle.composition.specs.ThreeCalls.{ThreeCalls, IsStep, StepIsThreeCalls}
-use Rattle.composition.proofs.Entry.{Known, known}
+use Rattle.composition.proofs.Entry.{Known, step-from, known}
 
 -- ---- node velocities within their limits pass gather's check, 12
 
@@ -74,10 +74,6 @@ module _ (s : Settings) (records : List ℕ) (lent : Grids) {ps : List Particle}
       ap (λ a. andThen (andThen a (λ qs. andThen (velocityChecks (s .nx * s .ny) (u alongX) (u alongY)) (λ _. result qs))) (λ qs. moveAnswer (s .nx) (s .ny) (u alongX) (u alongY) qs))
       (entry-is (eqb (length (u alongX)) (s .nx * s .ny) && eqb (length (u alongY)) (s .nx * s .ny)) (ap₂ _&&_ (eq-eqb (length (u alongX)) (s .nx * s .ny) (v alongX .count)) (eq-eqb (length (u alongY)) (s .nx * s .ny) (v alongY .count))))
       ∙ ap (λ a. andThen (andThen a (λ _. result ps)) (λ qs. moveAnswer (s .nx) (s .ny) (u alongX) (u alongY) qs)) (velocities-pass (v alongX) (v alongY))
-
-  from-entry : stepAfter s records lent ≡ stepFrom s records ps
-  unfolding stepAfter
-  from-entry = ap (λ a. either a (λ qs. stepFrom s records qs) (λ n k. seen (refused n k) records lent)) e
 
   -- what is told and left of the moved particles
   left : (grids : Grids) (a : Answer (List Particle)) {told : Answer Unit} {records′ : List ℕ} → Moves a records told records′ → either a (λ qs. seen done (recordsOf qs) grids) (λ n k. seen (refused n k) records grids) ≡ seen told records′ grids
@@ -128,7 +124,7 @@ module _ (s : Settings) (records : List ℕ) (lent : Grids) {ps : List Particle}
     leaves : stepAfter s records lent ≡ seen (c .gathered) (c .moved) (record { mass = c .mass; x = c .ux; y = c .uy })
     unfolding stepFrom
     leaves =
-        from-entry
+        step-from s records lent e
         ∙ left (nodesOf s ps) (stepOf s ps) moves
         ∙ ap (seen (c .gathered) (c .moved)) grids-are
 
