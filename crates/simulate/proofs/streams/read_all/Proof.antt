@@ -1,11 +1,12 @@
 -- `simulate::streams::read_all` meets its contract: what it reads stands at the start of the buffer. Assumes nothing.
 use mathlib.Core.Path.{_≡_, sym}
 use mathlib.Core.List.{List}
-use Prim.Native.Nat.{ℕ, _≤_}
+use Prim.Native.Nat.{ℕ, _≤_, _-_}
 use lib.Seq.{length-take-le}
 use Rattle.io.specs.Counts.{Counts}
 use lib.ListN.{length}
 use borrow.Author.Needs.{needs}
+use borrow.Rule.Slice.PartMut.{putMid}
 use Rattle.simulate.proofs.streams.read_all.Statement.{statement}
 use Rattle.simulate.proofs.streams.read_all.Tie as tie
 
@@ -41,7 +42,10 @@ same-length : tie.Need-same-length Inv-loop μ-loop
 same-length c = search needs
 
 returns : tie.Need-returns Inv-loop μ-loop
-returns c = counted _ _ (search needs)
+returns c =
+    let turn = c .before .before .before .before .before .before .loop in
+    let read = c .before .before .before .read .last .1 .0 in
+    counted (turn .done) (putMid (turn .done) (length (turn .buffer) - turn .done) (turn .buffer) read) (search needs)
 
 sub-count : tie.Need-sub-count Inv-loop μ-loop
 sub-count c = search needs
