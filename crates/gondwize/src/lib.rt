@@ -124,7 +124,9 @@ pub extern "C" fn gondwize_scatter(
     px: &mut [i64],
     py: &mut [i64],
 ) -> u64
-    ensures { λ r. ⌜ Tells (λ told. ScatterIs nx ny (now (records .entry)) (now (mass .entry)) (now (px .entry)) (now (py .entry)) told (now (mass .exit)) (now (px .exit)) (now (py .exit))) r ⌝ }
+    ensures { λ r. ⌜ Tells (λ told. ScatterIs nx ny (now (records .entry))
+        (now (mass .entry)) (now (px .entry)) (now (py .entry)) told
+        (now (mass .exit)) (now (px .exit)) (now (py .exit))) r ⌝ }
 {
     match transfer::scatter(nx, ny, records, mass, px, py) {
         Scattered::Refused(refusal) => answer::code(refusal),
@@ -143,7 +145,9 @@ pub extern "C" fn gondwize_update(
     px: &mut [i64],
     py: &mut [i64],
 ) -> u64
-    ensures { λ r. ⌜ Tells (λ told. UpdateIs nx ny gx gy (now (mass .entry)) (now (px .entry)) (now (py .entry)) told (now (px .exit)) (now (py .exit))) r ⌝ }
+    ensures { λ r. ⌜ Tells (λ told. UpdateIs nx ny gx gy
+        (now (mass .entry)) (now (px .entry)) (now (py .entry)) told
+        (now (px .exit)) (now (py .exit))) r ⌝ }
 {
     match update::update(nx, ny, gx, gy, mass, px, py) {
         Updated::Refused(refusal) => answer::code(refusal),
@@ -160,7 +164,9 @@ pub extern "C" fn gondwize_gather(
     ux: &[i64],
     uy: &[i64],
 ) -> u64
-    ensures { λ r. ⌜ Tells (λ told. GatherIs nx ny (now (records .entry)) (now (ux .entry)) (now (uy .entry)) told (now (records .exit))) r ⌝ }
+    ensures { λ r. ⌜ Tells (λ told. GatherIs nx ny
+        (now (records .entry)) (now (ux .entry)) (now (uy .entry)) told
+        (now (records .exit))) r ⌝ }
 {
     match transfer::gather(nx, ny, records, ux, uy) {
         Moved::Refused(refusal) => answer::code(refusal),
@@ -180,7 +186,9 @@ pub extern "C" fn gondwize_step(
     px: &mut [i64],
     py: &mut [i64],
 ) -> u64
-    ensures { λ r. ⌜ Tells (λ told. Sees (stepAfter (settingsWith nx ny gx gy) (now (records .entry)) (gridsOf (now (mass .entry)) (now (px .entry)) (now (py .entry)))) told (now (records .exit)) (now (mass .exit)) (now (px .exit)) (now (py .exit))) r ⌝ }
+    ensures { λ r. ⌜ Tells (λ told. Sees (stepAfter (settingsWith nx ny gx gy)
+        (now (records .entry)) (gridsOf (now (mass .entry)) (now (px .entry)) (now (py .entry)))) told
+        (now (records .exit)) (now (mass .exit)) (now (px .exit)) (now (py .exit))) r ⌝ }
 {
     match simulation::step(Settings { nx, ny, gx, gy }, records, mass, px, py) {
         Stepped::Refused(refusal) => answer::code(refusal),
@@ -202,7 +210,9 @@ pub extern "C" fn gondwize_run(
     py: &mut [i64],
     completed: &mut u64,
 ) -> u64
-    ensures { λ r. ⌜ RunTells (settingsWith nx ny gx gy) steps (now (records .entry)) (gridsOf (now (mass .entry)) (now (px .entry)) (now (py .entry))) r (now (records .exit)) (now (mass .exit)) (now (px .exit)) (now (py .exit)) (now (completed .exit)) ⌝ }
+    ensures { λ r. ⌜ RunTells (settingsWith nx ny gx gy) steps
+        (now (records .entry)) (gridsOf (now (mass .entry)) (now (px .entry)) (now (py .entry))) r
+        (now (records .exit)) (now (mass .exit)) (now (px .exit)) (now (py .exit)) (now (completed .exit)) ⌝ }
 {
     let settings = Settings { nx, ny, gx, gy };
     match simulation::run(settings, steps, records, mass, px, py) {

@@ -24,12 +24,13 @@ use Rattle.wide.specs.Internal.{capped, clamped, SameRecord, SameHeader}
 use Rattle.wide.proofs.Narrowing.{same-most, same-least, kept, same-within, within-kept}
 
 -- two values with the same answer, and the same value where it is a result, leave the same buffer
-same-buffer : {A : Type 0} (bytes-of : A → List ℕ) {p q : A} {a b : Answer Unit} (old : List ℕ) → a ≡ b → (b ≡ result tt → p ≡ q) → keptUnless a (bytes-of p) old ≡ keptUnless b (bytes-of q) old
-same-buffer bytes-of {p} {q} {b = b} old e same = ap (λ c. keptUnless c (bytes-of p) old) e ∙ go b same
-  where
-    go : (c : Answer Unit) → (c ≡ result tt → p ≡ q) → keptUnless c (bytes-of p) old ≡ keptUnless c (bytes-of q) old
-    go (result r) h = ap bytes-of (h refl)
-    go (refused n k) h = refl
+module _ {A : Type 0} (bytes-of : A → List ℕ) {p q : A} (old : List ℕ) where
+  same-kept : (a : Answer Unit) → (a ≡ result tt → p ≡ q) → keptUnless a (bytes-of p) old ≡ keptUnless a (bytes-of q) old
+  same-kept (result r) h = ap bytes-of (h refl)
+  same-kept (refused n k) h = refl
+
+  same-buffer : {a b : Answer Unit} → a ≡ b → (b ≡ result tt → p ≡ q) → keptUnless a (bytes-of p) old ≡ keptUnless b (bytes-of q) old
+  same-buffer {b = b} e same = ap (λ c. keptUnless c (bytes-of p) old) e ∙ same-kept b same
 
 -- ---- a particle
 

@@ -16,15 +16,18 @@ enum-known-refusal c = search needs
 
 code-requires : tie.Need-code-requires
 code-requires c κs =
-    place-of (c .before .refusal .given .0 .0) (c .before .before .before .check-set .ensures) (ap toldChecked (c .before .refusal .given .1))
-    (places.counted (c .before .before .before .before .before .args .nx) (c .before .before .before .before .before .args .ny) (now (c .before .before .before .before .before .args .records)))
+    let by = c .before .refusal .given in
+    let s = c .before .before .before .before .before in
+    place-of (by .0 .0) (c .before .before .before .check-set .ensures) (ap toldChecked (by .1))
+    (places.counted (s .args .nx) (s .args .ny) (now (s .args .records)))
 
 enum-known-found : tie.Need-enum-known-found
 enum-known-found c = search needs
 
 returns : tie.Need-returns
 returns c =
-    kept (c .before .before .refusal .given .0 .0) (c .before .before .before .before .check-set .ensures) (ap toldChecked (c .before .before .refusal .given .1)) (c .code .ensures)
+    let by = c .before .before .refusal .given in
+    kept (by .0 .0) (c .before .before .before .before .check-set .ensures) (ap toldChecked (by .1)) (c .code .ensures)
 
 returns-2 : tie.Need-returns-2
 returns-2 c = gave (c .before .before .before .check-set .ensures) (ap toldChecked (c .before .found .given .1)) refl

@@ -16,10 +16,11 @@ enum-known-refusal c = search needs
 
 code-requires : tie.Need-code-requires
 code-requires c κs =
-    let s = c .before .before .before .before .before .before .before .before in
+    let a = c .before .before .before .before .before .before .before .before .args in
     let u = c .before .before .before .before .before .gather .ensures in
     place-of (c .before .refusal .given .0 .0) (u .answer) (ap toldMoved (c .before .refusal .given .1))
-    (places.told (gatherAnswer (s .args .nx) (s .args .ny) (now (s .args .records)) (now (s .args .ux)) (now (s .args .uy))) (places.gather (s .args .nx) (s .args .ny) (now (s .args .records)) (now (s .args .ux)) (now (s .args .uy))))
+    (places.told (gatherAnswer (a .nx) (a .ny) (now (a .records)) (now (a .ux)) (now (a .uy)))
+    (places.gather (a .nx) (a .ny) (now (a .records)) (now (a .ux)) (now (a .uy))))
 
 enum-told : tie.Need-enum-told
 enum-told c = search needs

@@ -17,8 +17,10 @@ enum-known-refusal c = search needs
 
 code-requires : tie.Need-code-requires
 code-requires c κs =
-    place-of (c .before .refusal .given .0 .0) (c .before .before .before .read-file .ensures) (ap toldRead (c .before .refusal .given .1))
-    (places.file-read (now (c .before .before .before .before .before .args .bytes)))
+    let by = c .before .refusal .given in
+    let s = c .before .before .before .before .before in
+    place-of (by .0 .0) (c .before .before .before .read-file .ensures) (ap toldRead (by .1))
+    (places.file-read (now (s .args .bytes)))
 
 enum-known-h : tie.Need-enum-known-h
 enum-known-h c = search needs
@@ -29,7 +31,8 @@ of-header-requires c κs =
 
 returns : tie.Need-returns
 returns c =
-    kept (c .before .before .refusal .given .0 .0) (c .before .before .before .before .read-file .ensures) (ap toldRead (c .before .before .refusal .given .1)) (c .code .ensures)
+    let by = c .before .before .refusal .given in
+    kept (by .0 .0) (c .before .before .before .before .read-file .ensures) (ap toldRead (by .1)) (c .code .ensures)
 
 returns-2 : tie.Need-returns-2
 returns-2 c = gave (c .before .before .before .before .read-file .ensures) (ap toldRead (c .before .before .h .given .1)) (c .of-header .ensures)

@@ -16,8 +16,10 @@ enum-known-refusal c = search needs
 
 code-requires : tie.Need-code-requires
 code-requires c κs =
-    place-of (c .before .refusal .given .0 .0) (c .before .before .before .read-record .ensures) (ap toldRead (c .before .refusal .given .1))
-    (places.read 0 places.nowhere (now (c .before .before .before .before .before .args .bytes)))
+    let by = c .before .refusal .given in
+    let s = c .before .before .before .before .before in
+    place-of (by .0 .0) (c .before .before .before .read-record .ensures) (ap toldRead (by .1))
+    (places.read 0 places.nowhere (now (s .args .bytes)))
 
 enum-known-p : tie.Need-enum-known-p
 enum-known-p c = search needs
@@ -27,7 +29,8 @@ numbers-of-requires c κs = search needs
 
 returns : tie.Need-returns
 returns c =
-    kept (c .before .before .refusal .given .0 .0) (c .before .before .before .before .read-record .ensures) (ap toldRead (c .before .before .refusal .given .1)) (c .code .ensures)
+    let by = c .before .before .refusal .given in
+    kept (by .0 .0) (c .before .before .before .before .read-record .ensures) (ap toldRead (by .1)) (c .code .ensures)
 
 returns-2 : tie.Need-returns-2
 returns-2 c = gave (c .before .before .before .before .read-record .ensures) (ap toldRead (c .before .before .p .given .1)) (c .numbers-of .ensures)

@@ -1,25 +1,17 @@
--- `gondwize_run` meets its contract, which is that of the operation; the caller's number gets the completed steps. Assumes nothing.
+-- `gondwize_run` meets its contract, which is that of the operation: gravity comes through unchanged, and the caller's number gets the
+-- completed steps. Assumes nothing.
 use borrow.Author.Needs.{needs}
 use mathlib.Core.Path.{sym, ap, _∙_}
 use denote.Ref.{now}
-use mathlib.Core.List.{List}
-use Prim.Native.Nat.{ℕ}
-use lib.IntN.{ℤ}
-use mir.Syntax.{w64}
-use mir.Val.{toZ, ofZ}
 use mir.Facts.{toZ-ofZ}
-use Rattle.simulation.specs.Step.{Sees, gridsOf}
-use Rattle.simulation.specs.Run.{Completion, runAfter, toldRan}
+use Rattle.simulation.specs.Step.{gridsOf}
+use Rattle.simulation.specs.Run.{toldRan}
 use Rattle.gondwize.specs.Coded.{coded}
 use Rattle.gondwize.specs.Runs.{settingsWith}
 use Rattle.gondwize.proofs.Coding.{place-of}
 use Rattle.gondwize.proofs.Places as places
 use Rattle.gondwize.proofs.gondwize_run.Statement.{statement}
 use Rattle.gondwize.proofs.gondwize_run.Tie as tie
-
--- gravity comes through unchanged
-through : (s : tie.Start) {told : Completion} {records mass : List ℕ} {px py : List ℤ} → Sees (runAfter (settingsWith (s .args .nx) (s .args .ny) (toZ w64 (ofZ w64 (s .args .gx))) (toZ w64 (ofZ w64 (s .args .gy)))) (s .args .steps) (now (s .args .records)) (gridsOf (now (s .args .mass)) (now (s .args .px)) (now (s .args .py)))) told records mass px py → Sees (runAfter (settingsWith (s .args .nx) (s .args .ny) (s .args .gx) (s .args .gy)) (s .args .steps) (now (s .args .records)) (gridsOf (now (s .args .mass)) (now (s .args .px)) (now (s .args .py)))) told records mass px py
-through s u = rw (toZ-ofZ (s .fits .gx), toZ-ofZ (s .fits .gy)) at u
 
 run-requires : tie.Need-run-requires
 run-requires c κs = search needs
@@ -30,10 +22,11 @@ enum-known-count c = search needs
 code-requires : tie.Need-code-requires
 code-requires c κs =
     let s = c .before .before .before .before .before .before .before .before .before .before .before .before .before .before .before .before in
-    let u = through s (c .before .before .before .before .before .before .before .before .before .run .ensures) in
-    let grids = gridsOf (now (s .args .mass)) (now (s .args .px)) (now (s .args .py)) in
+    let h = c .before .before .before .before .before .before .before .before .before .run .ensures in
+    let u = rw (toZ-ofZ (s .fits .gx), toZ-ofZ (s .fits .gy)) at h in
     place-of (c .before .count .given .0 .1 .0) (ap (λ r. r .stop) (u .answer)) (ap (λ r. toldRan r .stop) (c .before .count .given .1))
-    (places.run (settingsWith (s .args .nx) (s .args .ny) (s .args .gx) (s .args .gy)) (s .args .steps) (now (s .args .records)) grids)
+    (places.run (settingsWith (s .args .nx) (s .args .ny) (s .args .gx) (s .args .gy)) (s .args .steps) (now (s .args .records))
+    (gridsOf (now (s .args .mass)) (now (s .args .px)) (now (s .args .py))))
 
 enum-known-count-2 : tie.Need-enum-known-count-2
 enum-known-count-2 c = search needs
@@ -54,9 +47,11 @@ returns : tie.Need-returns
 returns c =
     let s = c .before .before .before .before .before .before .before .before .before .before .before .before .before .before .before .before .before in
     let by = c .before .before .count .given .1 in
+    let run = c .before .before .before .before .before .before .before .before .before .before .run in
+    let h = run .ensures in
     record {
-      completion = toldRan (c .before .before .before .before .before .before .before .before .before .before .run .result);
-      sees = through s (c .before .before .before .before .before .before .before .before .before .before .run .ensures);
+      completion = toldRan (run .result);
+      sees = rw (toZ-ofZ (s .fits .gx), toZ-ofZ (s .fits .gy)) at h;
       coded-is = c .code .ensures ∙ sym (ap (λ r. coded (toldRan r .stop)) by);
       completed-is = sym (ap (λ r. toldRan r .completed) by);
     }
@@ -77,9 +72,11 @@ returns-2 : tie.Need-returns-2
 returns-2 c =
     let s = c .before .before .before .before .before .before .before .before .before .before .before .before .before .before .before .before in
     let by = c .before .count2 .given .1 in
+    let run = c .before .before .before .before .before .before .before .before .before .run in
+    let h = run .ensures in
     record {
-      completion = toldRan (c .before .before .before .before .before .before .before .before .before .run .result);
-      sees = through s (c .before .before .before .before .before .before .before .before .before .run .ensures);
+      completion = toldRan (run .result);
+      sees = rw (toZ-ofZ (s .fits .gx), toZ-ofZ (s .fits .gy)) at h;
       coded-is = sym (ap (λ r. coded (toldRan r .stop)) by);
       completed-is = sym (ap (λ r. toldRan r .completed) by);
     }

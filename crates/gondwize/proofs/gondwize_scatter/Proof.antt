@@ -5,7 +5,7 @@ use denote.Ref.{now}
 use Prim.Native.Nat.{_*_}
 use lib.ListN.{length}
 use Rattle.update.specs.Checks.{lengthsAre}
-use Rattle.transfer.specs.Transfer.{toldScattered, scatterAnswer}
+use Rattle.transfer.specs.Transfer.{toldScattered, entryAnswer}
 use Rattle.gondwize.proofs.Coding.{place-of, tells-done, tells-refused}
 use Rattle.gondwize.proofs.Places as places
 use Rattle.gondwize.proofs.gondwize_scatter.Statement.{statement}
@@ -19,10 +19,11 @@ enum-known-refusal c = search needs
 
 code-requires : tie.Need-code-requires
 code-requires c κs =
-    let s = c .before .before .before .before .before .before .before .before .before .before .before .before .before in
+    let a = c .before .before .before .before .before .before .before .before .before .before .before .before .before .args in
     let u = c .before .before .before .before .before .before .before .scatter .ensures in
+    let lengths = lengthsAre (a .nx * a .ny) (length (now (a .mass))) (length (now (a .px))) (length (now (a .py))) in
     place-of (c .before .refusal .given .0 .0) (u .answer) (ap toldScattered (c .before .refusal .given .1))
-    (places.told (scatterAnswer (s .args .nx) (s .args .ny) (now (s .args .records)) (length (now (s .args .mass))) (length (now (s .args .px))) (length (now (s .args .py)))) (places.entry (s .args .nx) (s .args .ny) (now (s .args .records)) (lengthsAre (s .args .nx * s .args .ny) (length (now (s .args .mass))) (length (now (s .args .px))) (length (now (s .args .py))))))
+    (places.told (entryAnswer (a .nx) (a .ny) (now (a .records)) lengths) (places.entry (a .nx) (a .ny) (now (a .records)) lengths))
 
 enum-told : tie.Need-enum-told
 enum-told c = search needs

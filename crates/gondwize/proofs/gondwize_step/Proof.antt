@@ -1,24 +1,14 @@
--- `gondwize_step` meets its contract, which is that of the operation. Assumes nothing.
+-- `gondwize_step` meets its contract, which is that of the operation: gravity comes through unchanged. Assumes nothing.
 use borrow.Author.Needs.{needs}
 use mathlib.Core.Path.{ap}
 use denote.Ref.{now}
-use mathlib.Core.List.{List}
-use Prim.Native.Nat.{ℕ}
-use lib.IntN.{ℤ}
-use mir.Syntax.{w64}
-use mir.Val.{toZ, ofZ}
 use mir.Facts.{toZ-ofZ}
-use Rattle.refusal.specs.Refused.{Answer}
-use Rattle.simulation.specs.Step.{Sees, gridsOf, stepAfter, toldStepped}
+use Rattle.simulation.specs.Step.{gridsOf, toldStepped}
 use Rattle.gondwize.specs.Runs.{settingsWith}
 use Rattle.gondwize.proofs.Coding.{place-of, tells-done, tells-refused}
 use Rattle.gondwize.proofs.Places as places
 use Rattle.gondwize.proofs.gondwize_step.Statement.{statement}
 use Rattle.gondwize.proofs.gondwize_step.Tie as tie
-
--- gravity comes through unchanged
-through : (s : tie.Start) {told : Answer Unit} {records mass : List ℕ} {px py : List ℤ} → Sees (stepAfter (settingsWith (s .args .nx) (s .args .ny) (toZ w64 (ofZ w64 (s .args .gx))) (toZ w64 (ofZ w64 (s .args .gy)))) (now (s .args .records)) (gridsOf (now (s .args .mass)) (now (s .args .px)) (now (s .args .py)))) told records mass px py → Sees (stepAfter (settingsWith (s .args .nx) (s .args .ny) (s .args .gx) (s .args .gy)) (now (s .args .records)) (gridsOf (now (s .args .mass)) (now (s .args .px)) (now (s .args .py)))) told records mass px py
-through s u = rw (toZ-ofZ (s .fits .gx), toZ-ofZ (s .fits .gy)) at u
 
 step-requires : tie.Need-step-requires
 step-requires c κs = search needs
@@ -29,9 +19,11 @@ enum-known-refusal c = search needs
 code-requires : tie.Need-code-requires
 code-requires c κs =
     let s = c .before .before .before .before .before .before .before .before .before .before .before .before .before .before .before .before in
-    let u = through s (c .before .before .before .before .before .before .before .before .before .step .ensures) in
+    let h = c .before .before .before .before .before .before .before .before .before .step .ensures in
+    let u = rw (toZ-ofZ (s .fits .gx), toZ-ofZ (s .fits .gy)) at h in
     place-of (c .before .refusal .given .0 .0) (u .answer) (ap toldStepped (c .before .refusal .given .1))
-    (places.step (settingsWith (s .args .nx) (s .args .ny) (s .args .gx) (s .args .gy)) (now (s .args .records)) (gridsOf (now (s .args .mass)) (now (s .args .px)) (now (s .args .py))))
+    (places.step (settingsWith (s .args .nx) (s .args .ny) (s .args .gx) (s .args .gy)) (now (s .args .records))
+    (gridsOf (now (s .args .mass)) (now (s .args .px)) (now (s .args .py))))
 
 enum-told : tie.Need-enum-told
 enum-told c = search needs
@@ -51,7 +43,8 @@ same-length-4 c = search needs
 returns : tie.Need-returns
 returns c =
     let s = c .before .before .before .before .before .before .before .before .before .before .before .before .before .before .before .before .before in
-    let u = through s (c .before .before .before .before .before .before .before .before .before .before .step .ensures) in
+    let h = c .before .before .before .before .before .before .before .before .before .before .step .ensures in
+    let u = rw (toZ-ofZ (s .fits .gx), toZ-ofZ (s .fits .gy)) at h in
     tells-refused u (c .before .before .refusal .given .0 .0) (ap toldStepped (c .before .before .refusal .given .1)) (c .code .ensures)
 
 same-length-5 : tie.Need-same-length-5
@@ -69,7 +62,9 @@ same-length-8 c = search needs
 returns-2 : tie.Need-returns-2
 returns-2 c =
     let s = c .before .before .before .before .before .before .before .before .before .before .before .before .before .before .before in
-    tells-done (through s (c .before .before .before .before .before .before .before .before .step .ensures)) (ap toldStepped (c .enum-told .given .1))
+    let h = c .before .before .before .before .before .before .before .before .step .ensures in
+    let u = rw (toZ-ofZ (s .fits .gx), toZ-ofZ (s .fits .gy)) at h in
+    tells-done u (ap toldStepped (c .enum-told .given .1))
 
 pub gondwize-step-spec : {M : Type 1} → statement M
 gondwize-step-spec =

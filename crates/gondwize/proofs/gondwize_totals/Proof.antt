@@ -17,8 +17,10 @@ enum-known-refusal c = search needs
 
 code-requires : tie.Need-code-requires
 code-requires c κs =
-    place-of (c .before .refusal .given .0 .0) (c .before .before .before .set-totals .ensures) (ap toldTotalled (c .before .refusal .given .1))
-    (places.totalled (c .before .before .before .before .before .args .nx) (c .before .before .before .before .before .args .ny) (now (c .before .before .before .before .before .args .records)))
+    let by = c .before .refusal .given in
+    let s = c .before .before .before .before .before in
+    place-of (by .0 .0) (c .before .before .before .set-totals .ensures) (ap toldTotalled (by .1))
+    (places.totalled (s .args .nx) (s .args .ny) (now (s .args .records)))
 
 enum-known-t : tie.Need-enum-known-t
 enum-known-t c = search needs
@@ -30,7 +32,8 @@ of-totals-requires c κs =
 
 returns : tie.Need-returns
 returns c =
-    kept (c .before .before .refusal .given .0 .0) (c .before .before .before .before .set-totals .ensures) (ap toldTotalled (c .before .before .refusal .given .1)) (c .code .ensures)
+    let by = c .before .before .refusal .given in
+    kept (by .0 .0) (c .before .before .before .before .set-totals .ensures) (ap toldTotalled (by .1)) (c .code .ensures)
 
 returns-2 : tie.Need-returns-2
 returns-2 c = gave (c .before .before .before .before .set-totals .ensures) (ap toldTotalled (c .before .before .t .given .1)) (c .of-totals .ensures)

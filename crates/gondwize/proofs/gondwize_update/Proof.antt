@@ -1,22 +1,13 @@
--- `gondwize_update` meets its contract, which is that of the operation. Assumes nothing.
+-- `gondwize_update` meets its contract, which is that of the operation: gravity comes through unchanged. Assumes nothing.
 use borrow.Author.Needs.{needs}
 use mathlib.Core.Path.{ap}
 use denote.Ref.{now}
-use mathlib.Core.List.{List}
-use lib.IntN.{ℤ}
-use mir.Syntax.{w64}
-use mir.Val.{toZ, ofZ}
 use mir.Facts.{toZ-ofZ}
-use Rattle.refusal.specs.Refused.{Answer}
-use Rattle.update.specs.Update.{toldUpdate, UpdateIs}
+use Rattle.update.specs.Update.{toldUpdate}
 use Rattle.gondwize.proofs.Coding.{place-of, tells-done, tells-refused}
 use Rattle.gondwize.proofs.Places as places
 use Rattle.gondwize.proofs.gondwize_update.Statement.{statement}
 use Rattle.gondwize.proofs.gondwize_update.Tie as tie
-
--- gravity comes through unchanged
-through : (s : tie.Start) {told : Answer Unit} {px py : List ℤ} → UpdateIs (s .args .nx) (s .args .ny) (toZ w64 (ofZ w64 (s .args .gx))) (toZ w64 (ofZ w64 (s .args .gy))) (now (s .args .mass)) (now (s .args .px)) (now (s .args .py)) told px py → UpdateIs (s .args .nx) (s .args .ny) (s .args .gx) (s .args .gy) (now (s .args .mass)) (now (s .args .px)) (now (s .args .py)) told px py
-through s u = rw (toZ-ofZ (s .fits .gx), toZ-ofZ (s .fits .gy)) at u
 
 update-requires : tie.Need-update-requires
 update-requires c κs = search needs
@@ -27,7 +18,8 @@ enum-known-refusal c = search needs
 code-requires : tie.Need-code-requires
 code-requires c κs =
     let s = c .before .before .before .before .before .before .before .before .before in
-    let u = through s (c .before .before .before .before .before .update .ensures) in
+    let h = c .before .before .before .before .before .update .ensures in
+    let u = rw (toZ-ofZ (s .fits .gx), toZ-ofZ (s .fits .gy)) at h in
     place-of (c .before .refusal .given .0 .0) (u .answer) (ap toldUpdate (c .before .refusal .given .1))
     (places.update (s .args .nx) (s .args .ny) (s .args .gx) (s .args .gy) (now (s .args .mass)) (now (s .args .px)) (now (s .args .py)))
 
@@ -43,7 +35,8 @@ same-length-2 c = search needs
 returns : tie.Need-returns
 returns c =
     let s = c .before .before .before .before .before .before .before .before .before .before in
-    let u = through s (c .before .before .before .before .before .before .update .ensures) in
+    let h = c .before .before .before .before .before .before .update .ensures in
+    let u = rw (toZ-ofZ (s .fits .gx), toZ-ofZ (s .fits .gy)) at h in
     tells-refused u (c .before .before .refusal .given .0 .0) (ap toldUpdate (c .before .before .refusal .given .1)) (c .code .ensures)
 
 same-length-3 : tie.Need-same-length-3
@@ -55,7 +48,9 @@ same-length-4 c = search needs
 returns-2 : tie.Need-returns-2
 returns-2 c =
     let s = c .before .before .before .before .before .before .before .before in
-    tells-done (through s (c .before .before .before .before .update .ensures)) (ap toldUpdate (c .enum-told .given .1))
+    let h = c .before .before .before .before .update .ensures in
+    let u = rw (toZ-ofZ (s .fits .gx), toZ-ofZ (s .fits .gy)) at h in
+    tells-done u (ap toldUpdate (c .enum-told .given .1))
 
 pub gondwize-update-spec : {M : Type 1} → statement M
 gondwize-update-spec =
