@@ -8,11 +8,11 @@ use native.Mathlib.Omega.{arith}
 use lib.Dec.{lit<, lit≤, ltb, eqb}
 use lib.IntN.{ℤ}
 use lib.ListN.{length}
-use Rattle.refusal.specs.Refused.{Answer, result, refused, refuseIf}
+use Rattle.refusal.specs.Refused.{Answer, result, refused, refuseIf, keptUnless}
 use Rattle.refusal.proofs.Answers.{passed}
 use Rattle.particle.specs.declared.Particle.{Particle}
 use Rattle.particle.specs.Layout.{recordLength}
-use Rattle.particle.specs.Record.{validMass, validPosition, validVelocity, validAffine, keptUnless, recordOf, writeParticle, writeAnswer, written}
+use Rattle.particle.specs.Record.{validMass, validPosition, validVelocity, validAffine, recordOf, writeParticle, writeAnswer, written}
 use Rattle.particle.proofs.Valid.{write-valid}
 use Rattle.particles.specs.Set.{validSize}
 use Rattle.bath_file.specs.declared.Header.{Header}
