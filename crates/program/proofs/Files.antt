@@ -10,8 +10,8 @@
 use Prim.Native.Nat.{ℕ, _*_, _-_, _≤_}
 use native.Mathlib.Nat.{mul-le-mul, le-trans}
 use native.Mathlib.Omega.{arith}
-use mathlib.Core.Path.{_≡_, sym, ap, ap₂, subst, _∙_}
-use mathlib.Core.Bool.{true, false}
+use mathlib.Core.Path.{_≡_, refl, sym, ap, ap₂, subst, _∙_}
+use mathlib.Core.Bool.{false}
 use mathlib.Core.List.{List, _++_, append-nil}
 use lib.IntN.{ℤ, pos}
 use lib.ListN.{length, replicate, take, drop, length-append, length-drop, length-replicate, drop-of-length-le}
@@ -30,7 +30,7 @@ use Rattle.bath_file.proofs.Answers.{header-held}
 use Rattle.bath_file.proofs.Records.{file-held}
 use Rattle.report.specs.Lines.{refusedLine}
 use Rattle.program.specs.declared.Printed.{Printed}
-use Rattle.program.specs.Program.{settingsOf, nodesOf, recordsIn, runOf, zeroGrids, reportOf, runReport, programText, printed, textAfter, fileAfter, gridsAfter, firstNodes, withFirst}
+use Rattle.program.specs.Program.{settingsOf, nodeCount, recordsIn, runOf, zeroGrids, reportOf, runReport, programText, isRefused, printed, textAfter, fileAfter, gridsAfter, firstNodes, withFirst}
 use Rattle.program.specs.Laws.{SameLengths}
 use Rattle.program.specs.Internal.{mostNodes, runFirst, Reportable, Begins, Accepted, Prints}
 use Rattle.program.proofs.Grids.{any-grids}
@@ -73,7 +73,7 @@ pub nodes-most : {nx ny : ℕ} → SizeLimits nx ny → nx * ny ≤ mostNodes
 nodes-most l = mul-le-mul (l .x-most) (l .y-most)
 
 -- a run on the first n nodes
-module _ (h : Header) {s : Settings} {n : ℕ} (settings : s ≡ settingsOf h) (size : n ≡ nodesOf h) (records mass : List ℕ) (x y : List ℤ) where
+module _ (h : Header) {s : Settings} {n : ℕ} (settings : s ≡ settingsOf h) (size : n ≡ nodeCount h) (records mass : List ℕ) (x y : List ℤ) where
   pub on-first : {c : Completion} {records′ mass′ : List ℕ} {x′ y′ : List ℤ} → Sees (runAfter s (h .steps) records (firstNodes n (gridsOf mass x y))) c records′ mass′ x′ y′ → Sees (runFirst h records (gridsOf mass x y)) c records′ (mass′ ++ drop n mass) (x′ ++ drop n x) (y′ ++ drop n y)
   on-first r =
       let same = ap₂ (λ s n. runAfter s (h .steps) records (firstNodes n (gridsOf mass x y))) settings size in
@@ -95,23 +95,24 @@ module _ (bytes : List ℕ) where
   fileBy f = either f (λ h. take headerLength bytes ++ runOf h bytes (zeroGrids h) .records) (λ number place. bytes)
 
   abbrev gridsBy : Grids → Answer Header → Grids
-  gridsBy grids f = either f (λ h. withFirst (nodesOf h) (runOf h bytes (firstNodes (nodesOf h) grids) .grids) grids) (λ number place. grids)
+  gridsBy grids f = either f (λ h. withFirst (nodeCount h) (runOf h bytes (firstNodes (nodeCount h) grids) .grids) grids) (λ number place. grids)
 
   module _ {f : Answer Header} (e : fileAnswer bytes ≡ f) where
     pub text-by : programText bytes ≡ textBy f
     unfolding programText
     text-by = ap textBy e
 
-    pub prints : {content text text′ file : List ℕ} {n : ℕ} {grids nodes : Grids} → Begins content text n text′ → content ≡ textBy f → file ≡ fileBy f → nodes ≡ gridsBy grids f → Prints bytes grids text (record { length = n; refused = either f (λ _. false) (λ number place. true) }) file nodes text′
-    unfolding printed textAfter fileAfter gridsAfter
-    prints {text = text} {grids = grids} b t l g =
-        let same = t ∙ sym text-by in
-        record {
-          answer = ap₂ (λ n f. record { length = n; refused = either f (λ _. false) (λ number place. true) }) (b .long ∙ ap length same) (sym e);
-          buffer = b .buffer ∙ ap (λ t. t ++ drop (length t) text) same;
-          file = l ∙ ap fileBy (sym e);
-          nodes = g ∙ ap (gridsBy grids) (sym e);
-        }
+    module _ {told : Printed} (r : told .refused ≡ isRefused f) where
+      pub prints : {content text text′ file : List ℕ} {grids nodes : Grids} → Begins content text (told .length) text′ → content ≡ textBy f → file ≡ fileBy f → nodes ≡ gridsBy grids f → Prints bytes grids text told file nodes text′
+      unfolding printed textAfter fileAfter gridsAfter
+      prints {text = text} {grids = grids} b t l g =
+          let same = t ∙ sym text-by in
+          record {
+            answer = ap₂ (λ n b. record { length = n; refused = b }) (b .long ∙ ap length same) (r ∙ ap isRefused (sym e));
+            buffer = b .buffer ∙ ap (λ t. t ++ drop (length t) text) same;
+            file = l ∙ ap fileBy (sym e);
+            nodes = g ∙ ap (gridsBy grids) (sym e);
+          }
 
   -- the text is no longer than the buffer that it was put into
   pub text-within : (text : List ℕ) {told : Printed} {text′ : List ℕ} → told ≡ printed bytes → text′ ≡ textAfter bytes text → told .length ≤ length text′
@@ -129,13 +130,13 @@ module _ {h : Header} {bytes mass : List ℕ} {x y : List ℤ} {text : List ℕ}
   pub file-long : headerLength ≤ length bytes
   file-long = header-held bytes (file-held bytes h (a .file) .header) .long
 
-  first-lengths : SameLengths (firstNodes (nodesOf h) (gridsOf mass x y)) (zeroGrids h)
+  first-lengths : SameLengths (firstNodes (nodeCount h) (gridsOf mass x y)) (zeroGrids h)
   first-lengths =
       let most = nodes-most file-sizes in
       record {
-        mass = length-take-le (nodesOf h) mass (le-trans most (a .grids .masses)) ∙ sym (length-replicate (nodesOf h) 0);
-        x = length-take-le (nodesOf h) x (le-trans most (a .grids .x-velocities)) ∙ sym (length-replicate (nodesOf h) (pos 0));
-        y = length-take-le (nodesOf h) y (le-trans most (a .grids .y-velocities)) ∙ sym (length-replicate (nodesOf h) (pos 0));
+        mass = length-take-le (nodeCount h) mass (le-trans most (a .grids .masses)) ∙ sym (length-replicate (nodeCount h) 0);
+        x = length-take-le (nodeCount h) x (le-trans most (a .grids .x-velocities)) ∙ sym (length-replicate (nodeCount h) (pos 0));
+        y = length-take-le (nodeCount h) y (le-trans most (a .grids .y-velocities)) ∙ sym (length-replicate (nodeCount h) (pos 0));
       }
 
   module _ (r : Ran) {records mass′ : List ℕ} {x′ y′ : List ℤ} (lends : Sees (runFirst h (lent bytes) (gridsOf mass x y)) (toldRan r) records mass′ x′ y′) where
@@ -146,7 +147,7 @@ module _ {h : Header} {bytes mass : List ℕ} {x y : List ℤ} {text : List ℕ}
     left =
         let before = file-held bytes h (a .file) in
         let held : Held (h .nx) (h .ny) (recordsIn bytes) = record { particles = before .particles; set = before .set } in
-        rw (ran .records) (run-kept (settingsOf h) (h .steps) (recordsIn bytes) (firstNodes (nodesOf h) (gridsOf mass x y)) held)
+        rw (ran .records) (run-kept (settingsOf h) (h .steps) (recordsIn bytes) (firstNodes (nodeCount h) (gridsOf mass x y)) held)
 
     pub report-ready : Reportable h (lent (given-back bytes records)) text
     report-ready =
@@ -157,8 +158,8 @@ module _ {h : Header} {bytes mass : List ℕ} {x y : List ℤ} {text : List ℕ}
       pub accepted-prints : Prints bytes (gridsOf mass x y) text (record { length = n; refused = false }) (given-back bytes records) (gridsOf mass′ x′ y′) text′
       accepted-prints =
           let grids = gridsOf mass x y in
-          let law = any-grids (settingsOf h) (h .steps) (recordsIn bytes) (firstNodes (nodesOf h) grids) (zeroGrids h) first-lengths in
-          prints bytes (a .file) b
+          let law = any-grids (settingsOf h) (h .steps) (recordsIn bytes) (firstNodes (nodeCount h) grids) (zeroGrids h) first-lengths in
+          prints bytes (a .file) refl b
           (ap₂ reportOf (ran .answer ∙ law .0) (lent-back bytes records file-long ∙ ran .records ∙ law .1))
           (back-is bytes records ∙ ap (λ l. take headerLength bytes ++ l) (ran .records ∙ law .1))
           (ap₂ (λ m u. gridsOf m u y′) (ran .masses) (ran .x-velocities) ∙ ap (gridsOf _ _) (ran .y-velocities))

@@ -1,12 +1,11 @@
 -- A run's answer and records do not depend on what its grids hold. Assumes nothing.
 use Prim.Native.Nat.{ℕ, zero, suc}
-use mathlib.Core.Path.{_≡_, refl, ap₂, _∙_, subst}
+use mathlib.Core.Path.{_≡_, refl, subst}
 use mathlib.Core.List.{List}
-use lib.ListN.{length}
-use Rattle.refusal.specs.Refused.{Answer, result, refused, refuseIf, either}
+use Rattle.refusal.specs.Refused.{Answer, result, refused, either}
 use Rattle.particle.specs.declared.Particle.{Particle}
 use Rattle.simulation.specs.declared.Settings.{Settings}
-use Rattle.simulation.specs.Step.{Grids, After, gridsOf, checkEntry}
+use Rattle.simulation.specs.Step.{Grids, After}
 use Rattle.simulation.specs.Run.{Completion, runFrom, runEntry, runAfter}
 use Rattle.program.specs.Laws.{SameLengths, AnyGrids}
 

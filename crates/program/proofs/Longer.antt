@@ -1,6 +1,6 @@
--- Of a longer input the first 57,354 bytes decide: as many are refused for their length, or for the header before it.
+-- Of a longer input the first 57,354 bytes decide: both are refused alike, for their header or for their length.
 -- Assumes nothing.
-use Prim.Native.Nat.{ℕ, _+_, _*_, _≤_, _<_}
+use Prim.Native.Nat.{ℕ, _+_, _*_, _≤_}
 use native.Mathlib.Omega.{arith}
 use native.Mathlib.Decide.{decLe}
 use mathlib.Core.Path.{_≡_, refl, sym, ap, _∙_}
@@ -19,9 +19,10 @@ use Rattle.program.specs.Laws.{roomForFile, LongerInput}
 use Rattle.program.proofs.Files.{text-by}
 
 -- two long inputs with the same first bytes have the same header
-same-header : (bytes bytes′ : List ℕ) → headerLength ≤ length bytes → headerLength ≤ length bytes′ → take headerLength bytes ≡ take headerLength bytes′ → headerAnswer bytes ≡ headerAnswer bytes′
-unfolding headerAnswer
-same-header bytes bytes′ l l′ e = rw (le-ltb (length bytes) headerLength l, le-ltb (length bytes′) headerLength l′, e)
+module _ (bytes bytes′ : List ℕ) (l : headerLength ≤ length bytes) (l′ : headerLength ≤ length bytes′) where
+  same-header : take headerLength bytes ≡ take headerLength bytes′ → headerAnswer bytes ≡ headerAnswer bytes′
+  unfolding headerAnswer
+  same-header e = rw (le-ltb (length bytes) headerLength l, le-ltb (length bytes′) headerLength l′, e)
 
 -- no header counts as many records as 57,354 bytes and more would hold
 too-long : (bytes : List ℕ) (h : Header) → roomForFile ≤ length bytes → headerAnswer bytes ≡ result h → recordsAnswer h bytes ≡ refused 1 0
@@ -38,8 +39,11 @@ file-too-long bytes l = go (headerAnswer bytes) refl
     go (result h) e = too-long bytes h l e
     go (refused n k) e = refl
 
--- so the records do not count
-not-run : (a : Answer Header) (f g : Header → List ℕ) → either (andThen a (λ h. refused 1 0)) f refusedLine ≡ either (andThen a (λ h. refused 1 0)) g refusedLine
+-- so what a run would print does not count
+abbrev unread : Answer Header → (Header → List ℕ) → List ℕ
+unread a report = either (andThen a (λ h. refused 1 0)) report refusedLine
+
+not-run : (a : Answer Header) (f g : Header → List ℕ) → unread a f ≡ unread a g
 not-run (result h) f g = refl
 not-run (refused n k) f g = refl
 

@@ -3,11 +3,11 @@
 --     put-text, put-never     what `report::report` makes of whole records and a buffer that every report fits
 -- Assumes nothing.
 use Prim.Native.Nat.{ℕ, _≤_}
-use mathlib.Core.Path.{_≡_, refl, sym, ap, _∙_}
+use mathlib.Core.Path.{_≡_, refl, _∙_}
 use mathlib.Core.Bool.{true}
-use mathlib.Core.List.{List, _++_}
+use mathlib.Core.List.{List}
 use borrow.Author.Tests.{le-ltb}
-use lib.ListN.{length, drop}
+use lib.ListN.{length}
 use Rattle.refusal.specs.Refused.{result, refused}
 use Rattle.refusal.proofs.Answers.{same-result, not-result}
 use Rattle.particles.specs.Set.{validLength, particlesIn, totalsOf}

@@ -2,7 +2,7 @@
 -- and a refused file. Assumes nothing.
 use Prim.Native.Nat.{ℕ}
 use mathlib.Core.Path.{_≡_}
-use mathlib.Core.List.{List, [], _∷_, _++_}
+use mathlib.Core.List.{List, [], _∷_}
 use lib.ListN.{take}
 use Rattle.report.specs.Decimal.{bytesOf}
 use Rattle.program.specs.Program.{programText}

@@ -18,7 +18,7 @@ use Rattle.report.specs.declared.Outcome.{Outcome}
 use Rattle.report.specs.declared.Outcome.the-variants.{Done, Stopped}
 use Rattle.report.specs.Report.{reportLength}
 use Rattle.program.specs.declared.Printed.{Printed}
-use Rattle.program.specs.Program.{settingsOf, nodesOf, printed, textAfter, fileAfter, firstNodes, withFirst, gridsAfter}
+use Rattle.program.specs.Program.{settingsOf, nodeCount, printed, textAfter, fileAfter, firstNodes, withFirst, gridsAfter}
 
 -- ---- the run
 
@@ -35,8 +35,8 @@ pub record Room (mass : List ℕ) (x y : List ℤ) : Type 0 where
 -- the run that a header asks for, on the first nodes of such grids
 abbrev pub runFirst : Header → List ℕ → Grids → After Completion
 runFirst h records grids =
-    let ran = runAfter (settingsOf h) (h .steps) records (firstNodes (nodesOf h) grids) in
-    record { answer = ran .answer; records = ran .records; grids = withFirst (nodesOf h) (ran .grids) grids }
+    let ran = runAfter (settingsOf h) (h .steps) records (firstNodes (nodeCount h) grids) in
+    record { answer = ran .answer; records = ran .records; grids = withFirst (nodeCount h) (ran .grids) grids }
 
 -- ---- the report
 

@@ -10,7 +10,7 @@ use mathlib.Core.Bool.{Bool, true, false}
 use mathlib.Core.List.{List, _++_}
 use lib.IntN.{pos}
 use lib.ListN.{length, replicate, take, drop}
-use Rattle.refusal.specs.Refused.{either}
+use Rattle.refusal.specs.Refused.{Answer, either}
 use Rattle.particles.specs.Set.{particlesIn, totalsOf}
 use Rattle.simulation.specs.declared.Settings.{Settings}
 use Rattle.simulation.specs.Step.{Grids, After, gridsOf}
@@ -27,8 +27,9 @@ use Rattle.program.specs.declared.Printed.{Printed}
 abbrev pub settingsOf : Header → Settings
 settingsOf h = record { nx = h .nx; ny = h .ny; gx = h .gx; gy = h .gy }
 
-abbrev pub nodesOf : Header → ℕ
-nodesOf h = h .nx * h .ny
+-- Nx·Ny
+abbrev pub nodeCount : Header → ℕ
+nodeCount h = h .nx * h .ny
 
 -- the records lie behind the header
 abbrev pub recordsIn : List ℕ → List ℕ
@@ -40,7 +41,7 @@ runOf h bytes grids = runAfter (settingsOf h) (h .steps) (recordsIn bytes) grids
 
 -- grids of its size with every node zero
 abbrev pub zeroGrids : Header → Grids
-zeroGrids h = gridsOf (replicate (nodesOf h) 0) (replicate (nodesOf h) (pos 0)) (replicate (nodesOf h) (pos 0))
+zeroGrids h = gridsOf (replicate (nodeCount h) 0) (replicate (nodeCount h) (pos 0)) (replicate (nodeCount h) (pos 0))
 
 -- "completed steps, refusal (0 for none) and place; then the totals; then each record"
 unfoldable pub reportOf : Completion → List ℕ → List ℕ
@@ -60,11 +61,12 @@ programText bytes = either (fileAnswer bytes) (runReport bytes) refusedLine
 
 -- ---- what the caller of the function sees
 
-abbrev pub isRefused : List ℕ → Bool
-isRefused bytes = either (fileAnswer bytes) (λ _. false) (λ number place. true)
+abbrev pub isRefused : {A : Type 0} → Answer A → Bool
+isRefused a = either a (λ _. false) (λ number place. true)
 
+-- the text's length, and whether the file was refused
 unfoldable pub printed : List ℕ → Printed
-printed bytes = record { length = length (programText bytes); refused = isRefused bytes }
+printed bytes = record { length = length (programText bytes); refused = isRefused (fileAnswer bytes) }
 
 -- the text, and behind it what was there
 unfoldable pub textAfter : List ℕ → List ℕ → List ℕ
@@ -89,5 +91,5 @@ withFirst n first grids =
 unfoldable pub gridsAfter : List ℕ → Grids → Grids
 gridsAfter bytes grids =
     either (fileAnswer bytes)
-    (λ h. withFirst (nodesOf h) (runOf h bytes (firstNodes (nodesOf h) grids) .grids) grids)
+    (λ h. withFirst (nodeCount h) (runOf h bytes (firstNodes (nodeCount h) grids) .grids) grids)
     (λ number place. grids)

@@ -79,6 +79,23 @@ fn run_records(
     )
 }
 
+// The totals of the records that a run left. `report_run` calls it with records that are accepted.
+fn totals_of(nx: usize, ny: usize, records: &[u8]) -> Totals
+    requires { ⌜ totalsAnswer nx ny (now records) ≡ result (totalsOf (particlesIn (now records))) ⌝ }
+    ensures { λ r. ⌜ r ≡ totalsOf (particlesIn (now (records .entry))) ⌝ }
+{
+    match particles::set_totals(nx, ny, records) {
+        Totalled::Sums(totals) => totals,
+        Totalled::Refused(_) => Totals {
+            mass: 0,
+            px: 0,
+            py: 0,
+            spin: 0,
+            motion: 0,
+        },
+    }
+}
+
 // What a run comes to, with the totals of the records that it left.
 fn outcome(ran: Ran, totals: Totals) -> Outcome
     ensures { λ r. ⌜ r ≡ outcomeOf ran totals ⌝ }
@@ -86,17 +103,6 @@ fn outcome(ran: Ran, totals: Totals) -> Outcome
     match ran {
         Ran::Done(steps) => Outcome::Done(steps, totals),
         Ran::Stopped(steps, refusal) => Outcome::Stopped(steps, refusal, totals),
-    }
-}
-
-// The same from the records. `report_run` calls it with records whose totals are not refused.
-fn summary(h: Header, ran: Ran, records: &[u8]) -> Outcome
-    requires { ⌜ totalsAnswer (h .nx) (h .ny) (now records) ≡ result (totalsOf (particlesIn (now records))) ⌝ }
-    ensures { λ r. ⌜ r ≡ outcomeOf ran (totalsOf (particlesIn (now (records .entry)))) ⌝ }
-{
-    match particles::set_totals(h.nx, h.ny, records) {
-        Totalled::Sums(totals) => outcome(ran, totals),
-        Totalled::Refused(refusal) => Outcome::Refused(refusal),
     }
 }
 
@@ -116,15 +122,20 @@ fn report_run(h: Header, ran: Ran, records: &[u8], text: &mut [u8]) -> usize
     requires { ⌜ Reportable h (now records) (now text) ⌝ }
     ensures { λ r. ⌜ Begins (reportOf (toldRan ran) (now (records .entry))) (now (text .entry)) r (now (text .exit)) ⌝ }
 {
-    put(summary(h, ran, records), records, text)
+    let totals = totals_of(h.nx, h.ny, records);
+    put(outcome(ran, totals), records, text)
 }
 
 // The report of a refused file. `run_file` calls it.
-fn report_refusal(refusal: Refusal, file: &[u8], text: &mut [u8]) -> usize
+fn report_refusal(refusal: Refusal, file: &[u8], text: &mut [u8]) -> Printed
     requires { ⌜ reportLength ≤ length (now text) ⌝ }
-    ensures { λ r. ⌜ Begins (refusedLine (number refusal) (place refusal)) (now (text .entry)) r (now (text .exit)) ⌝ }
+    ensures { λ r. ⌜ (r .refused ≡ true) × Begins (refusedLine (number refusal) (place refusal)) (now (text .entry)) (r .length) (now (text .exit)) ⌝ }
 {
-    put(Outcome::Refused(refusal), &file[..0], text)
+    let length = put(Outcome::Refused(refusal), &file[..0], text);
+    Printed {
+        length,
+        refused: true,
+    }
 }
 
 // Runs a file that was accepted, and reports it. `run_file` calls it.
@@ -165,13 +176,7 @@ pub fn run_file(
         ≡ gridsAfter (now (file .entry)) (gridsOf (now (mass .entry)) (now (px .entry)) (now (py .entry))) ⌝ }
 {
     match bath_file::read_file(file) {
-        FileRead::Refused(refusal) => {
-            let length = report_refusal(refusal, file, text);
-            Printed {
-                length,
-                refused: true,
-            }
-        }
+        FileRead::Refused(refusal) => report_refusal(refusal, file, text),
         FileRead::Accepted(h) => run_accepted(h, file, mass, px, py, text),
     }
 }

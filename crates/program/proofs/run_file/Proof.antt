@@ -20,7 +20,6 @@ enum-known-h c = search needs
 
 run-accepted-requires : tie.Need-run-accepted-requires
 run-accepted-requires c κs =
-    let s = c .before .before .before .before .before .before .before .before .before .before .before in
     record {
       file = sym (c .before .before .before .before .before .before .before .before .read-file .ensures) ∙ ap toldRead (c .before .before .before .before .before .before .h .given .1);
       grids = record { masses = search needs; x-velocities = search needs; y-velocities = search needs };
@@ -33,10 +32,8 @@ same-length c = search needs
 returns : tie.Need-returns
 returns c =
     let s = c .before .before .before .before .before .before .before .before .before in
-    let told =
-    prints (s .args .file .now)
-    (sym (c .before .before .before .before .before .before .read-file .ensures) ∙ ap toldRead (c .before .before .before .before .refusal .given .1))
-    (c .report-refusal .ensures) refl refl refl in
+    let read = sym (c .before .before .before .before .before .before .read-file .ensures) ∙ ap toldRead (c .before .before .before .before .refusal .given .1) in
+    let told = prints (s .args .file .now) read (c .report-refusal .ensures .0) (c .report-refusal .ensures .1) refl refl refl in
     (told .answer, (told .buffer, (told .file, told .nodes)))
 
 same-length-2 : tie.Need-same-length-2

@@ -1,6 +1,5 @@
 -- `program::settings_of` meets its contract: gravity is a small number, widened. Assumes nothing.
 use mathlib.Core.Path.{ap₂}
-use Rattle.simulation.specs.declared.Settings.{Settings}
 use Rattle.particles.proofs.Held.{held-signed}
 use borrow.Author.Needs.{needs}
 use Rattle.program.proofs.settings_of.Statement.{statement}
