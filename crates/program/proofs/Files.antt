@@ -74,7 +74,10 @@ nodes-most l = mul-le-mul (l .x-most) (l .y-most)
 
 -- a run on the first n nodes
 module _ (h : Header) {s : Settings} {n : ℕ} (settings : s ≡ settingsOf h) (size : n ≡ nodeCount h) (records mass : List ℕ) (x y : List ℤ) where
-  pub on-first : {c : Completion} {records′ mass′ : List ℕ} {x′ y′ : List ℤ} → Sees (runAfter s (h .steps) records (firstNodes n (gridsOf mass x y))) c records′ mass′ x′ y′ → Sees (runFirst h records (gridsOf mass x y)) c records′ (mass′ ++ drop n mass) (x′ ++ drop n x) (y′ ++ drop n y)
+  pub on-first :
+      {c : Completion} {records′ mass′ : List ℕ} {x′ y′ : List ℤ} →
+      Sees (runAfter s (h .steps) records (firstNodes n (gridsOf mass x y))) c records′ mass′ x′ y′ →
+      Sees (runFirst h records (gridsOf mass x y)) c records′ (mass′ ++ drop n mass) (x′ ++ drop n x) (y′ ++ drop n y)
   on-first r =
       let same = ap₂ (λ s n. runAfter s (h .steps) records (firstNodes n (gridsOf mass x y))) settings size in
       record {
@@ -103,7 +106,13 @@ module _ (bytes : List ℕ) where
     text-by = ap textBy e
 
     module _ {told : Printed} (r : told .refused ≡ isRefused f) where
-      pub prints : {content text text′ file : List ℕ} {grids nodes : Grids} → Begins content text (told .length) text′ → content ≡ textBy f → file ≡ fileBy f → nodes ≡ gridsBy grids f → Prints bytes grids text told file nodes text′
+      pub prints :
+          {content text text′ file : List ℕ} {grids nodes : Grids} →
+          Begins content text (told .length) text′ →
+          content ≡ textBy f →
+          file ≡ fileBy f →
+          nodes ≡ gridsBy grids f →
+          Prints bytes grids text told file nodes text′
       unfolding printed textAfter fileAfter gridsAfter
       prints {text = text} {grids = grids} b t l g =
           let same = t ∙ sym text-by in

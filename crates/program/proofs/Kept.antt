@@ -33,17 +33,25 @@ module _ (s : Settings) where
   abbrev Kept : List ℕ → Type 0
   Kept records = Held (s .nx) (s .ny) records
 
-  next-kept : (records : List ℕ) {ps qs : List Particle} → setAnswer (s .nx) (s .ny) records ≡ result ps → stepOf s ps ≡ result qs → setAnswer (s .nx) (s .ny) (recordsOf qs) ≡ result qs
+  -- the records hold these particles
+  abbrev Holds : List ℕ → List Particle → Type 0
+  Holds records ps = setAnswer (s .nx) (s .ny) records ≡ result ps
+
+  next-kept : (records : List ℕ) {ps qs : List Particle} → Holds records ps → stepOf s ps ≡ result qs → Holds (recordsOf qs) qs
   next-kept records {ps} {qs} e f =
       let limits = limits-after s ps (completed s ps (accepted-limits (s .nx) (s .ny) records e) f) in
       limits-accepted (s .nx) (s .ny) qs (subst (SetLimits (s .nx) (s .ny)) (step-result s ps f .1) limits)
 
-  steps-kept : (n : ℕ) (records : List ℕ) (ps : List Particle) (grids : Grids) → setAnswer (s .nx) (s .ny) records ≡ result ps → Kept (runFrom s n records ps grids .records)
+  steps-kept : (n : ℕ) (records : List ℕ) (ps : List Particle) (grids : Grids) → Holds records ps → Kept (runFrom s n records ps grids .records)
   unfolding runFrom
   steps-kept zero records ps grids e = record { particles = ps; set = e }
   steps-kept (suc n) records ps grids e = go (λ qs. steps-kept n (recordsOf qs) qs (nodesOf s ps)) (stepOf s ps) refl
     where
-      go : ((qs : List Particle) → setAnswer (s .nx) (s .ny) (recordsOf qs) ≡ result qs → Kept (runFrom s n (recordsOf qs) qs (nodesOf s ps) .records)) → (a : Answer (List Particle)) → stepOf s ps ≡ a → Kept (runFrom s (suc n) records ps grids .records)
+      go :
+          ((qs : List Particle) → Holds (recordsOf qs) qs → Kept (runFrom s n (recordsOf qs) qs (nodesOf s ps) .records)) →
+          (a : Answer (List Particle)) →
+          stepOf s ps ≡ a →
+          Kept (runFrom s (suc n) records ps grids .records)
       go further (result qs) f = rw f (further qs (next-kept records e f))
       go further (refused k p) f = rw f (record { particles = ps; set = e })
 

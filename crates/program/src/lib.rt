@@ -161,7 +161,8 @@ fn run_accepted(
 
 // The program: runs the file that a slice holds, any bytes, and puts the whole text at the beginning of the text buffer.
 // Afterwards the file holds its header and the records that the run left, and the first nodes of the grids what the run left
-// there; a refused file and the grids are as they were. What grids and text hold before does not count.
+// there; a refused file and the grids are as they were. Whatever grids and text hold before, the answer, the text and the file
+// come out the same.
 pub fn run_file(
     file: &mut [u8],
     mass: &mut [u64; MOST_NODES],
