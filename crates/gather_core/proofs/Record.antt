@@ -17,7 +17,7 @@ use Rattle.arith.specs.Size.{Bound, bound-pos, bound-equal}
 use Rattle.spline.specs.Spline.{nearestNode, onAxis}
 use Rattle.spline.proofs.Axis.{Touched, touched}
 use Rattle.particle.specs.declared.Particle.{Particle}
-use Rattle.apic.specs.Step.{moved}
+use Rattle.apic.specs.Step.{moved, gatheredAffine}
 use Rattle.apic.specs.Limits.{SizeLimits, ParticleLimits}
 use Rattle.unpacked.specs.Unpacked.{particleAt, particlesOf, NumbersAt}
 use Rattle.unpacked.proofs.Laws.{count, set-numbers-at, limits-at}
@@ -106,9 +106,9 @@ moves nx ny index k p q {target} {r} s is-identifier is-mass is-x is-y is-a is-b
 
 -- a particle's own axes after the gather
 pub x-axis : (nx ny : ℕ) (ux uy : List ℤ) (p : Particle) → axisOf nx ny ux p ≡ alongXOf (gathered nx ny ux uy p)
-unfolding moved
+unfolding moved gatheredAffine
 x-axis nx ny ux uy p = refl
 
 pub y-axis : (nx ny : ℕ) (ux uy : List ℤ) (p : Particle) → axisOf nx ny uy p ≡ alongYOf (gathered nx ny ux uy p)
-unfolding moved
+unfolding moved gatheredAffine
 y-axis nx ny ux uy p = refl
