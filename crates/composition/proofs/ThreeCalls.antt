@@ -4,7 +4,7 @@
 --     update-is            update refuses none of their nodes, and leaves the velocities of a step
 --     gather-is            gather refuses none of those, and answers as the step
 -- Assumes nothing.
-use mathlib.Core.Path.{_≡_, sym, ap, ap₂, _∙_, subst}
+use mathlib.Core.Path.{_≡_, refl, sym, ap, ap₂, _∙_, subst}
 use mathlib.Core.Bool.{Bool, true, not, _&&_}
 use mathlib.Core.List.{List}
 use Prim.Native.Nat.{ℕ, _*_, _<_, _≤_}
@@ -30,7 +30,7 @@ use Rattle.simulation.specs.Step.{Grids, masses, momenta, updatedVelocities, st
 use Rattle.simulation.specs.Internal.{seen}
 use Rattle.simulation.proofs.Refusals as refusals
 use Rattle.simulation.proofs.Refusals.{velocity-limits}
-use Rattle.composition.specs.ThreeCalls.{ThreeCalls, IsStep, StepIsThreeCalls}
+use Rattle.composition.specs.ThreeCalls.{ThreeCalls, IsStep, StepIsThreeCalls, ThreeCallsExist}
 use Rattle.composition.proofs.Entry.{Known, step-from, known}
 
 -- ---- node velocities within their limits pass gather's check, 12
@@ -133,3 +133,21 @@ module _ (s : Settings) (records : List ℕ) (lent : Grids) {ps : List Particle}
 
 pub step-is-three-calls : StepIsThreeCalls
 step-is-three-calls s records lent ps e c = is-step s records lent e c
+
+-- the answers and buffers that the promises name
+pub three-calls-exist : ThreeCallsExist
+three-calls-exist s records lent =
+    record {
+      scattered = _;
+      mass = _;
+      px = _;
+      py = _;
+      scatter = record { answer = refl; mass-is = refl; px-is = refl; py-is = refl };
+      updated = _;
+      ux = _;
+      uy = _;
+      update = record { answer = refl; px-is = refl; py-is = refl };
+      gathered = _;
+      moved = _;
+      gather = record { answer = refl; records-are = refl };
+    }

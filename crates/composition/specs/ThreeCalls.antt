@@ -40,3 +40,7 @@ abbrev pub StepIsThreeCalls : Type 0
 StepIsThreeCalls =
     (s : Settings) (records : List ℕ) (lent : Grids) (ps : List Particle) → stepEntry s records lent ≡ result ps
     → (c : ThreeCalls s records lent) → IsStep s records lent c
+
+-- and there are such calls for every input, since each operation answers every input
+abbrev pub ThreeCallsExist : Type 0
+ThreeCallsExist = (s : Settings) (records : List ℕ) (lent : Grids) → ThreeCalls s records lent

@@ -16,6 +16,7 @@ use Rattle.arith.specs.Order.{pos-nonneg}
 use Rattle.arith.specs.Size.{Bound, bound-pos, bound-equal}
 use Rattle.spline.specs.Spline.{nearestNode, onAxis}
 use Rattle.spline.proofs.Axis.{Touched, touched}
+use Rattle.refusal.specs.Refused.{keptUnless}
 use Rattle.particle.specs.declared.Particle.{Particle}
 use Rattle.apic.specs.Step.{moved, gatheredAffine}
 use Rattle.apic.specs.Limits.{SizeLimits, ParticleLimits}
@@ -24,8 +25,8 @@ use Rattle.unpacked.proofs.Laws.{count, set-numbers-at, limits-at}
 use Rattle.gather_point.specs.declared.AffineVelocity.{AffineVelocity}
 use Rattle.gather_core.specs.declared.Gathered.{Gathered}
 use Rattle.gather_point.specs.Point.{Around}
-use Rattle.gather_core.specs.Gather.{gathered, moveCheck, NodeVelocities, Gatherable}
-use Rattle.gather_core.specs.Parts.{checkOf, particleStored, unlessRefused, movedStored, Settled, MovesOne, alongXOf, alongYOf}
+use Rattle.gather_core.specs.Gather.{gathered, moveCheck, toldGathered, NodeVelocities, Gatherable}
+use Rattle.gather_core.specs.Parts.{checkOf, particleStored, movedStored, Settled, MovesOne, alongXOf, alongYOf}
 use Rattle.gather_point.proofs.Nodes.{axisOf, nodes-inside}
 
 on-axis : (n x : ℕ) → n ≤ 48 → T (onAxis n x) → (32 ≤ x) × (x ≤ 4095)
@@ -101,7 +102,7 @@ moves nx ny index k p q {target} {r} s is-identifier is-mass is-x is-y is-a is-b
       answer = s .answer ∙ (λ i. checkOf index nx ny (is-x i +ℤ is-a i .v) (is-y i +ℤ is-b i .v) (is-a i) (is-b i));
       target-is =
           s .target-is
-          ∙ (λ i. unlessRefused r (particleStored target (10 * k) (is-identifier i) (is-mass i) (is-x i +ℤ is-a i .v) (is-y i +ℤ is-b i .v) (is-a i) (is-b i)) target);
+          ∙ (λ i. keptUnless (toldGathered r) (particleStored target (10 * k) (is-identifier i) (is-mass i) (is-x i +ℤ is-a i .v) (is-y i +ℤ is-b i .v) (is-a i) (is-b i)) target);
     }
 
 -- a particle's own axes after the gather

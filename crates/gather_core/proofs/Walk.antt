@@ -13,7 +13,7 @@ use lib.Seq.{take-suc, drop-cons, drop-length, drop-drop, drop-set-lt, length-ta
 use lib.IntN.{ℤ, pos}
 use lib.Signed.{pos-natAbs}
 use Rattle.refusal.specs.declared.Refusal.{Refusal}
-use Rattle.refusal.specs.Refused.{Answer, result, number, place, refusedBy}
+use Rattle.refusal.specs.Refused.{Answer, result, number, place, refusedBy, keptUnless}
 use Rattle.particle.specs.declared.Particle.{Particle}
 use Rattle.apic.specs.Step.{moved, newCoordinate, alongX, alongY}
 use Rattle.unpacked.specs.Unpacked.{unpacked, particleAt, particlesOf, UnpackedSet}
@@ -21,7 +21,7 @@ use Rattle.unpacked.proofs.Laws.{count, particle-of, stored, length-stored, tak
 use Rattle.gather_core.specs.declared.Gathered.{Gathered}
 use Rattle.gather_core.specs.declared.Gathered.the-variants.{Done, Refused}
 use Rattle.gather_core.specs.Gather.{gathered, moveChecks, answerFrom, toldGathered, movedBefore, movedInto, targetFrom, GathersFrom}
-use Rattle.gather_core.specs.Parts.{fiveStored, particleStored, unlessRefused, movedStored, MovesOne}
+use Rattle.gather_core.specs.Parts.{fiveStored, particleStored, movedStored, MovesOne}
 use Rattle.gather_core.proofs.Checks.{follow, check-follow, refused-at, Passed, passed}
 
 -- ---- a record that passes is stored whole
@@ -127,7 +127,7 @@ module _ {first nx ny : ℕ} {source ux uy target₀ : List ℤ} (s : UnpackedSe
       stop e is =
           record {
             answer = sym refuses;
-            target-is = m .target-is ∙ ap (λ a. unlessRefused a (movedStored target (10 * k) (particleAt source k) (movedAt nx ny source ux uy k)) target) is ∙ target-of w (refusedBy e) refuses here;
+            target-is = m .target-is ∙ ap (λ a. keptUnless (toldGathered a) (movedStored target (10 * k) (particleAt source k) (movedAt nx ny source ux uy k)) target) is ∙ target-of w (refusedBy e) refuses here;
           }
         where
           refuses : answerFrom first nx ny ux uy (particlesOf source) ≡ refusedBy e
@@ -161,7 +161,7 @@ module _ {first nx ny : ℕ} {source ux uy target₀ : List ℤ} (s : UnpackedSe
           is-stored : target′ ≡ stored target (10 * k) (movedAt nx ny source ux uy k)
           is-stored =
               m .target-is
-              ∙ ap (λ a. unlessRefused a (movedStored target (10 * k) (particleAt source k) (movedAt nx ny source ux uy k)) target) is
+              ∙ ap (λ a. keptUnless (toldGathered a) (movedStored target (10 * k) (particleAt source k) (movedAt nx ny source ux uy k)) target) is
               ∙ stored-is nx ny ux uy target (10 * k) (particleAt source k) (passed nx ny (particleAt source k) (movedAt nx ny source ux uy k) (first + k) (result tt) (sym (m .answer) ∙ ap toldGathered is) .0)
 
           more : map (gathered nx ny ux uy) (take (k + 1) (particlesOf source)) ≡ map (gathered nx ny ux uy) (take k (particlesOf source)) ++ movedAt nx ny source ux uy k ∷ []

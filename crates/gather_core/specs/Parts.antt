@@ -5,14 +5,13 @@ use Prim.Native.Nat.{ℕ, _+_, _*_, _<_}
 use lib.ListN.{length, set}
 use lib.IntN.{ℤ, pos}
 use Rattle.arith.specs.Size.{Bound}
-use Rattle.refusal.specs.Refused.{Answer, result}
+use Rattle.refusal.specs.Refused.{Answer, result, keptUnless}
 use Rattle.particle.specs.declared.Particle.{Particle}
 use Rattle.apic.specs.Step.{newCoordinate, alongX, alongY}
 use Rattle.apic.specs.Limits.{SizeLimits}
 use Rattle.gather_point.specs.declared.AffineVelocity.{AffineVelocity}
 use Rattle.gather_core.specs.Gather.{tooFast, tooSteep, offGrid, firstOf, moveCheck, toldGathered}
 use Rattle.gather_core.specs.declared.Gathered.{Gathered}
-use Rattle.gather_core.specs.declared.Gathered.the-variants.{Done, Refused}
 
 -- what record k is refused for, come to (x, y) with a on the x axis and b on the y axis
 unfoldable pub checkOf : ℕ → ℕ → ℕ → ℤ → ℤ → AffineVelocity → AffineVelocity → Answer (Unit {0})
@@ -37,15 +36,10 @@ pub record Settling (k nx ny : ℕ) (x y : ℤ) (a b : AffineVelocity) (target :
   pub vx-size : Bound (a .v) 524288
   pub vy-size : Bound (b .v) 524288
 
--- what the target holds after a record: its numbers stored, or, where it is refused, what it held
-abbrev pub unlessRefused : Gathered → List ℤ → List ℤ → List ℤ
-unlessRefused Done stored held = stored
-unlessRefused (Refused e) stored held = held
-
 -- (x, y) is the new place of the record with this index
 pub record Settled (index k nx ny : ℕ) (identifier mass x y : ℤ) (a b : AffineVelocity) (target target′ : List ℤ) (r : Gathered) : Type 0 where
   pub answer : toldGathered r ≡ checkOf index nx ny x y a b
-  pub target-is : target′ ≡ unlessRefused r (particleStored target (10 * k) identifier mass x y a b) target
+  pub target-is : target′ ≡ keptUnless (toldGathered r) (particleStored target (10 * k) identifier mass x y a b) target
 
 -- a particle's velocity on the x axis and on the y axis
 abbrev pub alongXOf : Particle → AffineVelocity
@@ -62,4 +56,4 @@ movedStored l at p q =
 -- the record with this index, which stands at place k, is p before its move and q after it
 pub record MovesOne (nx ny index k : ℕ) (p q : Particle) (target target′ : List ℤ) (r : Gathered) : Type 0 where
   pub answer : toldGathered r ≡ moveCheck nx ny p q index (result tt)
-  pub target-is : target′ ≡ unlessRefused r (movedStored target (10 * k) p q) target
+  pub target-is : target′ ≡ keptUnless (toldGathered r) (movedStored target (10 * k) p q) target

@@ -8,8 +8,8 @@
 use mathlib.Core.Path.{_≡_, sym, ap, subst, _∙_}
 use Prim.Native.Nat.{ℕ, _+_, _*_, _<_}
 use Rattle.refusal.specs.declared.Refusal.{Refusal}
-use Rattle.refusal.specs.Refused.{Answer, result, refused, refusedBy, number, place}
-use Rattle.gondwize.specs.Coded.{coded, valuesOr, Gives, Tells}
+use Rattle.refusal.specs.Refused.{Answer, result, refused, refusedBy, number, place, either}
+use Rattle.gondwize.specs.Coded.{coded, Gives, Tells}
 
 pub data Placed {A : Type 0} : Answer A → Type 0 where
   accepts : {a : A} → Placed (result a)
@@ -31,10 +31,10 @@ module _ {A : Type 0} {a : Answer A} {told : Answer A} {x : A} (is : told ≡ a)
 
 module _ {A B : Type 0} {a : Answer A} {values : A → B} {out : B} where
   pub gave : {told : Answer A} {x : A} {out′ : B} → told ≡ a → told ≡ result x → out′ ≡ values x → Gives a values out 0 out′
-  gave is by e = record { answer = zero-of is by; values-are = e ∙ ap (λ b. valuesOr b values out) (sym by ∙ is) }
+  gave is by e = record { answer = zero-of is by; values-are = e ∙ ap (λ b. either b values (λ n k. out)) (sym by ∙ is) }
 
   pub kept : (e : Refusal) {told : Answer A} {r : ℕ} → told ≡ a → told ≡ refusedBy e → r ≡ number e * 4294967296 + place e → Gives a values out r out
-  kept e is by r = record { answer = r ∙ code-of e is by; values-are = ap (λ b. valuesOr b values out) (sym by ∙ is) }
+  kept e is by r = record { answer = r ∙ code-of e is by; values-are = ap (λ b. either b values (λ n k. out)) (sym by ∙ is) }
 
 -- a call without values: a result, and a refusal
 module _ {Promise : Answer Unit → Type 0} {told : Answer Unit} (promise : Promise told) where

@@ -2,26 +2,17 @@
 -- Assumes nothing.
 use mathlib.Core.Path.{_≡_}
 use Prim.Native.Nat.{ℕ, _+_, _*_}
-use Rattle.refusal.specs.Refused.{Answer, result, refused}
+use Rattle.refusal.specs.Refused.{Answer, result, refused, either}
 
 -- 0 where there is a result, and else the refusal's number times 2^32, plus its place
 abbrev pub coded : {A : Type 0} → Answer A → ℕ
 coded (result a) = 0
 coded (refused n k) = n * 4294967296 + k
 
--- what the caller's array or number is after an answer: the values of the result; a refused call leaves it as it was
-abbrev pub valuesOr : {A B : Type 0} → Answer A → (A → B) → B → B
-valuesOr (result a) values old = values a
-valuesOr (refused n k) values old = old
-
--- a result that is one number
-abbrev pub alone : ℕ → ℕ
-alone n = n
-
--- a call that hands values back
+-- a call that hands values back: the caller's array or number then has those of the result; refused, it is as it was
 pub record Gives {A B : Type 0} (a : Answer A) (values : A → B) (out : B) (told : ℕ) (out′ : B) : Type 0 where
   pub answer : told ≡ coded a
-  pub values-are : out′ ≡ valuesOr a values out
+  pub values-are : out′ ≡ either a values (λ n k. out)
 
 -- a call without values: the operation's own promise, which says what is told, and the number of what is told
 pub record Tells (Promise : Answer Unit → Type 0) (number : ℕ) : Type 0 where

@@ -24,8 +24,8 @@ ghost use Rattle.update.specs.Update.{UpdateIs};
 ghost use Rattle.simulation.specs.Step.{Sees, gridsOf, stepAfter};
 ghost use Rattle.bath_file.specs.File.{fileAnswer};
 ghost use Rattle.bath_file.specs.File as file;
-ghost use Rattle.wide.specs.Values.{three, sums, settings, particleWith, headerWith};
-ghost use Rattle.gondwize.specs.Coded.{coded, alone, Gives, Tells};
+ghost use Rattle.wide.specs.Values.{weightValues, sums, settings, particleWith, headerWith};
+ghost use Rattle.gondwize.specs.Coded.{coded, Gives, Tells};
 ghost use Rattle.gondwize.specs.Runs.{RunTells, settingsWith};
 
 // Read a record: ten values.
@@ -70,7 +70,7 @@ pub extern "C" fn gondwize_write_record(
 // Check a set: one value, the number of records.
 #[no_mangle]
 pub extern "C" fn gondwize_check_set(nx: usize, ny: usize, records: &[u8], count: &mut u64) -> u64
-    ensures { λ r. ⌜ Gives (checkAnswer nx ny (now (records .entry))) alone (now (count .entry)) r (now (count .exit)) ⌝ }
+    ensures { λ r. ⌜ Gives (checkAnswer nx ny (now (records .entry))) (λ n. n) (now (count .entry)) r (now (count .exit)) ⌝ }
 {
     match particles::check_set(nx, ny, records) {
         Checked::Refused(refusal) => answer::code(refusal),
@@ -103,7 +103,7 @@ pub extern "C" fn gondwize_totals(
 // Weights: three values.
 #[no_mangle]
 pub extern "C" fn gondwize_weights(q: i64, values: &mut [i64; 3]) -> u64
-    ensures { λ r. ⌜ Gives (weightsAnswer q) three (now (values .entry)) r (now (values .exit)) ⌝ }
+    ensures { λ r. ⌜ Gives (weightsAnswer q) weightValues (now (values .entry)) r (now (values .exit)) ⌝ }
 {
     match spline::weights(q) {
         Weighed::Refused(refusal) => answer::code(refusal),

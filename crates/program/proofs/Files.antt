@@ -30,9 +30,9 @@ use Rattle.bath_file.proofs.Answers.{header-held}
 use Rattle.bath_file.proofs.Records.{file-held}
 use Rattle.report.specs.Lines.{refusedLine}
 use Rattle.program.specs.declared.Printed.{Printed}
-use Rattle.program.specs.Program.{settingsOf, nodeCount, recordsIn, runOf, zeroGrids, reportOf, runReport, programText, isRefused, printed, textAfter, fileAfter, gridsAfter, firstNodes, withFirst}
+use Rattle.program.specs.Program.{settingsFor, nodeCount, recordsIn, runOf, zeroGrids, reportOf, runReport, programText, isRefused, printed, textAfter, fileAfter, gridsAfter, firstNodes, withFirst}
 use Rattle.program.specs.Laws.{SameLengths}
-use Rattle.program.specs.Internal.{mostNodes, runFirst, Reportable, Begins, Accepted, Prints}
+use Rattle.program.specs.Internal.{mostNodes, runFirst, Reportable, Begins, AcceptedFile, Prints}
 use Rattle.program.proofs.Grids.{any-grids}
 use Rattle.program.proofs.Kept.{Held, kept-totals, run-kept}
 
@@ -73,7 +73,7 @@ pub nodes-most : {nx ny : ℕ} → SizeLimits nx ny → nx * ny ≤ mostNodes
 nodes-most l = mul-le-mul (l .x-most) (l .y-most)
 
 -- a run on the first n nodes
-module _ (h : Header) {s : Settings} {n : ℕ} (settings : s ≡ settingsOf h) (size : n ≡ nodeCount h) (records mass : List ℕ) (x y : List ℤ) where
+module _ (h : Header) {s : Settings} {n : ℕ} (settings : s ≡ settingsFor h) (size : n ≡ nodeCount h) (records mass : List ℕ) (x y : List ℤ) where
   pub on-first :
       {c : Completion} {records′ mass′ : List ℕ} {x′ y′ : List ℤ} →
       Sees (runAfter s (h .steps) records (firstNodes n (gridsOf mass x y))) c records′ mass′ x′ y′ →
@@ -132,7 +132,7 @@ module _ (bytes : List ℕ) where
 
 -- ---- a file that was accepted
 
-module _ {h : Header} {bytes mass : List ℕ} {x y : List ℤ} {text : List ℕ} (a : Accepted h bytes mass x y text) where
+module _ {h : Header} {bytes mass : List ℕ} {x y : List ℤ} {text : List ℕ} (a : AcceptedFile h bytes mass x y text) where
   pub file-sizes : SizeLimits (h .nx) (h .ny)
   file-sizes = size-limits (h .nx) (h .ny) (header-held bytes (file-held bytes h (a .file) .header) .valid .size)
 
@@ -156,7 +156,7 @@ module _ {h : Header} {bytes mass : List ℕ} {x y : List ℤ} {text : List ℕ}
     left =
         let before = file-held bytes h (a .file) in
         let held : Held (h .nx) (h .ny) (recordsIn bytes) = record { particles = before .particles; set = before .set } in
-        rw (ran .records) (run-kept (settingsOf h) (h .steps) (recordsIn bytes) (firstNodes (nodeCount h) (gridsOf mass x y)) held)
+        rw (ran .records) (run-kept (settingsFor h) (h .steps) (recordsIn bytes) (firstNodes (nodeCount h) (gridsOf mass x y)) held)
 
     pub report-ready : Reportable h (lent (given-back bytes records)) text
     report-ready =
@@ -167,7 +167,7 @@ module _ {h : Header} {bytes mass : List ℕ} {x y : List ℤ} {text : List ℕ}
       pub accepted-prints : Prints bytes (gridsOf mass x y) text (record { length = n; refused = false }) (given-back bytes records) (gridsOf mass′ x′ y′) text′
       accepted-prints =
           let grids = gridsOf mass x y in
-          let law = any-grids (settingsOf h) (h .steps) (recordsIn bytes) (firstNodes (nodeCount h) grids) (zeroGrids h) first-lengths in
+          let law = any-grids (settingsFor h) (h .steps) (recordsIn bytes) (firstNodes (nodeCount h) grids) (zeroGrids h) first-lengths in
           prints bytes (a .file) refl b
           (ap₂ reportOf (ran .answer ∙ law .0) (lent-back bytes records file-long ∙ ran .records ∙ law .1))
           (back-is bytes records ∙ ap (λ l. take headerLength bytes ++ l) (ran .records ∙ law .1))

@@ -18,7 +18,7 @@ use Rattle.report.specs.declared.Outcome.{Outcome}
 use Rattle.report.specs.declared.Outcome.the-variants.{Done, Stopped}
 use Rattle.report.specs.Report.{reportLength}
 use Rattle.program.specs.declared.Printed.{Printed}
-use Rattle.program.specs.Program.{settingsOf, nodeCount, printed, textAfter, fileAfter, firstNodes, withFirst, gridsAfter}
+use Rattle.program.specs.Program.{settingsFor, nodeCount, printed, textAfter, fileAfter, firstNodes, withFirst, gridsAfter}
 
 -- ---- the run
 
@@ -27,7 +27,7 @@ abbrev pub mostNodes : ℕ
 mostNodes = 2304
 
 -- grids that have room for any run
-pub record Room (mass : List ℕ) (x y : List ℤ) : Type 0 where
+pub record RunRoom (mass : List ℕ) (x y : List ℤ) : Type 0 where
   pub masses : mostNodes ≤ length mass
   pub x-velocities : mostNodes ≤ length x
   pub y-velocities : mostNodes ≤ length y
@@ -35,7 +35,7 @@ pub record Room (mass : List ℕ) (x y : List ℤ) : Type 0 where
 -- the run that a header asks for, on the first nodes of such grids
 abbrev pub runFirst : Header → List ℕ → Grids → After Completion
 runFirst h records grids =
-    let ran = runAfter (settingsOf h) (h .steps) records (firstNodes (nodeCount h) grids) in
+    let ran = runAfter (settingsFor h) (h .steps) records (firstNodes (nodeCount h) grids) in
     record { answer = ran .answer; records = ran .records; grids = withFirst (nodeCount h) (ran .grids) grids }
 
 -- ---- the report
@@ -59,9 +59,9 @@ pub record Begins (text before : List ℕ) (n : ℕ) (after : List ℕ) : Type 0
 -- ---- both
 
 -- a file that was accepted, and room for its run and its report
-pub record Accepted (h : Header) (bytes mass : List ℕ) (x y : List ℤ) (text : List ℕ) : Type 0 where
+pub record AcceptedFile (h : Header) (bytes mass : List ℕ) (x y : List ℤ) (text : List ℕ) : Type 0 where
   pub file : fileAnswer bytes ≡ result h
-  pub grids : Room mass x y
+  pub grids : RunRoom mass x y
   pub room : reportLength ≤ length text
 
 -- what the caller sees of a file, grids and a text buffer

@@ -24,8 +24,8 @@ use Rattle.program.specs.declared.Printed.{Printed}
 
 -- ---- "It reads a bath file from standard input, runs it and prints"
 
-abbrev pub settingsOf : Header → Settings
-settingsOf h = record { nx = h .nx; ny = h .ny; gx = h .gx; gy = h .gy }
+abbrev pub settingsFor : Header → Settings
+settingsFor h = record { nx = h .nx; ny = h .ny; gx = h .gx; gy = h .gy }
 
 -- Nx·Ny
 abbrev pub nodeCount : Header → ℕ
@@ -37,7 +37,7 @@ recordsIn bytes = drop headerLength bytes
 
 -- the run that a file asks for
 abbrev pub runOf : Header → List ℕ → Grids → After Completion
-runOf h bytes grids = runAfter (settingsOf h) (h .steps) (recordsIn bytes) grids
+runOf h bytes grids = runAfter (settingsFor h) (h .steps) (recordsIn bytes) grids
 
 -- grids of its size with every node zero
 abbrev pub zeroGrids : Header → Grids

@@ -21,8 +21,8 @@ ghost use Rattle.simulation.specs.Step.{Sees, gridsOf};
 ghost use Rattle.simulation.specs.Run.{toldRan};
 ghost use Rattle.report.specs.Lines.{refusedLine};
 ghost use Rattle.report.specs.Report.{textOf, reportLength};
-ghost use Rattle.program.specs.Program.{settingsOf, reportOf, printed, textAfter, fileAfter, gridsAfter};
-ghost use Rattle.program.specs.Internal.{mostNodes, Room, runFirst, Reportable, outcomeOf, Begins, Accepted, Prints};
+ghost use Rattle.program.specs.Program.{settingsFor, reportOf, printed, textAfter, fileAfter, gridsAfter};
+ghost use Rattle.program.specs.Internal.{mostNodes, RunRoom, runFirst, Reportable, outcomeOf, Begins, AcceptedFile, Prints};
 
 // One byte more than the longest file that is accepted: whoever reads as many bytes of an input need not read the others.
 pub const FILE_ROOM: usize = 57354;
@@ -38,7 +38,7 @@ pub struct Printed {
 
 // The settings of a file's run.
 fn settings_of(h: Header) -> Settings
-    ensures { λ r. ⌜ r ≡ settingsOf h ⌝ }
+    ensures { λ r. ⌜ r ≡ settingsFor h ⌝ }
 {
     Settings {
         nx: h.nx,
@@ -64,7 +64,7 @@ fn run_records(
     px: &mut [i64],
     py: &mut [i64],
 ) -> Ran
-    requires { ⌜ SizeLimits (h .nx) (h .ny) × Room (now mass) (now px) (now py) ⌝ }
+    requires { ⌜ SizeLimits (h .nx) (h .ny) × RunRoom (now mass) (now px) (now py) ⌝ }
     ensures { λ r. ⌜ Sees (runFirst h (now (records .entry)) (gridsOf (now (mass .entry)) (now (px .entry)) (now (py .entry))))
         (toldRan r) (now (records .exit)) (now (mass .exit)) (now (px .exit)) (now (py .exit)) ⌝ }
 {
@@ -147,7 +147,7 @@ fn run_accepted(
     py: &mut [i64],
     text: &mut [u8],
 ) -> Printed
-    requires { ⌜ Accepted h (now file) (now mass) (now px) (now py) (now text) ⌝ }
+    requires { ⌜ AcceptedFile h (now file) (now mass) (now px) (now py) (now text) ⌝ }
     ensures { λ r. ⌜ Prints (now (file .entry)) (gridsOf (now (mass .entry)) (now (px .entry)) (now (py .entry))) (now (text .entry))
         r (now (file .exit)) (gridsOf (now (mass .exit)) (now (px .exit)) (now (py .exit))) (now (text .exit)) ⌝ }
 {

@@ -6,6 +6,6 @@ use Rattle.simulate.specs.declared.streams.Input.{Input}
 use Rattle.simulate.specs.declared.streams.Input.the-variants as input
 
 -- what was read stands at the start of the buffer
-abbrev pub Held : Input → List ℕ → Type 0
-Held (input.Read n) buffer = Counts n buffer
-Held input.Failed buffer = Unit {0}
+abbrev pub ReadWithin : Input → List ℕ → Type 0
+ReadWithin (input.Read n) buffer = Counts n buffer
+ReadWithin input.Failed buffer = Unit {0}

@@ -9,8 +9,10 @@ use program::FILE_ROOM;
 use program::MOST_NODES;
 use report::REPORT_LENGTH;
 use streams::Input;
+ghost use mathlib.Core.Path.{_≡_};
 ghost use Prim.Native.Nat.{_≤_};
 ghost use lib.ListN.{length};
+ghost use Rattle.program.specs.Laws.{roomForFile};
 
 // Writes the text at the beginning of a buffer, that of a refused file to standard error too. `serve` calls it.
 fn deliver(text: &[u8], size: usize, refused: bool)
@@ -25,14 +27,16 @@ fn deliver(text: &[u8], size: usize, refused: bool)
     }
 }
 
-// Reads, runs and reports.
+// Reads, runs and reports. `main` calls it with room for as many bytes as decide what is printed of any input.
 fn serve(
     file: &mut [u8],
     mass: &mut [u64; MOST_NODES],
     px: &mut [i64; MOST_NODES],
     py: &mut [i64; MOST_NODES],
     text: &mut [u8; REPORT_LENGTH],
-) {
+)
+    requires { ⌜ length (now file) ≡ roomForFile ⌝ }
+{
     match streams::read_all(STDIN_FILENO, file) {
         Input::Failed => {
             streams::write_all(STDERR_FILENO, b"input could not be read\n");

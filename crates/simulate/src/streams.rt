@@ -1,6 +1,6 @@
 // Standard input read to its end, and a text written whole: a failure is told apart from an end.
 use libc::EINTR;
-ghost use Rattle.simulate.specs.Streams.{Held};
+ghost use Rattle.simulate.specs.Streams.{ReadWithin};
 
 // The most calls that one input or one text takes: one for each byte, and those that a signal interrupted.
 const MOST_CALLS: u32 = 1000000;
@@ -20,7 +20,7 @@ fn interrupted() -> bool {
 
 // Reads until the input ends or the buffer is full; a read into no room answers 0, as at the end.
 pub fn read_all(fd: i32, buffer: &mut [u8]) -> Input
-    ensures { λ r. ⌜ Held r (now (buffer .exit)) ⌝ }
+    ensures { λ r. ⌜ ReadWithin r (now (buffer .exit)) ⌝ }
 {
     let mut done = 0;
     let mut calls = MOST_CALLS;

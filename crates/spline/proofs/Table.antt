@@ -18,7 +18,7 @@ use mir.Facts.{and-yes}
 use Rattle.arith.specs.Sums.{from}
 use Rattle.spline.specs.Spline.{lowerWeight, nearestWeight, upperWeight}
 use Rattle.spline.specs.Answers.{table, tableRow}
-use Rattle.spline.specs.Test.{sameℤ, allSame, momentOf, claims, rowPasses, passesFrom, passes}
+use Rattle.spline.specs.Test.{sameℤ, allSame, rowMoment, claims, rowPasses, passesFrom, passes}
 
 -- ---- one row
 
@@ -40,7 +40,7 @@ all-hold (c ∷ cs) t =
 
 -- the sum of the formulas' weights at offset q, each times f of its node minus the particle
 abbrev pub moment : ℤ → (ℤ → ℤ) → ℤ
-moment q f = momentOf q (lowerWeight q) (nearestWeight q) (upperWeight q) f
+moment q f = rowMoment q (lowerWeight q) (nearestWeight q) (upperWeight q) f
 
 pub record RowFacts (q : ℤ) : Type 0 where
   pub lower : pos (natAbs (lowerWeight q)) ≡ lowerWeight q
@@ -72,8 +72,8 @@ three-numbers q l n u t =
             nearest = natural n (nearestWeight q) nearest;
             upper = natural u (upperWeight q) upper;
             total = sym (λ i. lower i +ℤ nearest i +ℤ upper i) ∙ h .1 .1 .1 .0;
-            first = sym (λ i. momentOf q (lower i) (nearest i) (upper i) (λ d. d)) ∙ h .1 .1 .1 .1 .0;
-            second = sym (λ i. momentOf q (lower i) (nearest i) (upper i) (λ d. d *ℤ d)) ∙ h .1 .1 .1 .1 .1 .0;
+            first = sym (λ i. rowMoment q (lower i) (nearest i) (upper i) (λ d. d)) ∙ h .1 .1 .1 .1 .0;
+            second = sym (λ i. rowMoment q (lower i) (nearest i) (upper i) (λ d. d *ℤ d)) ∙ h .1 .1 .1 .1 .1 .0;
           };
     }
 

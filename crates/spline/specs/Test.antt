@@ -20,8 +20,8 @@ allSame [] = true
 allSame (c ∷ cs) = sameℤ (c .0) (c .1) && allSame cs
 
 -- the sum of three weights, each times f of its node minus the particle at offset q
-abbrev pub momentOf : ℤ → ℤ → ℤ → ℤ → (ℤ → ℤ) → ℤ
-momentOf q lower nearest upper f =
+abbrev pub rowMoment : ℤ → ℤ → ℤ → ℤ → (ℤ → ℤ) → ℤ
+rowMoment q lower nearest upper f =
     lower *ℤ f (negℤ (pos 64) -ℤ q) +ℤ nearest *ℤ f (negℤ q) +ℤ upper *ℤ f (pos 64 -ℤ q)
 
 -- what is compared at offset q, for a row of three weights
@@ -31,8 +31,8 @@ claims q lower nearest upper =
     ∷ (nearest, nearestWeight q)
     ∷ (upper, upperWeight q)
     ∷ (lower +ℤ nearest +ℤ upper, pos 8192)
-    ∷ (momentOf q lower nearest upper (λ d. d), pos 0)
-    ∷ (momentOf q lower nearest upper (λ d. d *ℤ d), pos 8192 *ℤ pos 1024)
+    ∷ (rowMoment q lower nearest upper (λ d. d), pos 0)
+    ∷ (rowMoment q lower nearest upper (λ d. d *ℤ d), pos 8192 *ℤ pos 1024)
     ∷ []
 
 abbrev pub rowPasses : ℤ → List ℕ → Bool

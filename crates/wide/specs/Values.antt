@@ -1,6 +1,6 @@
 -- The numbers that a caller in another language hands in and gets.
---     particleWith, headerWith    a particle and a header of these numbers, of any size
---     three, sums, settings       the values of results, as lists; a particle's are its ten numbers (unpacked's specs)
+--     particleWith, headerWith        a particle and a header of these numbers, of any size
+--     weightValues, sums, settings    the values of results, as lists; a particle's are its ten numbers (unpacked's specs)
 -- Assumes nothing.
 use mathlib.Core.List.{List, [], _∷_}
 use Prim.Native.Nat.{ℕ}
@@ -37,8 +37,8 @@ headerWith nx ny gx gy count steps =
     }
 
 -- the lower, the nearest and the upper weight
-abbrev pub three : Three → List ℤ
-three w = w .lower ∷ w .nearest ∷ w .upper ∷ []
+abbrev pub weightValues : Three → List ℤ
+weightValues w = w .lower ∷ w .nearest ∷ w .upper ∷ []
 
 -- mass, px, py, spin, motion
 abbrev pub sums : Totals → List ℤ

@@ -10,7 +10,7 @@ use spline::AxisWeights;
 ghost use mathlib.Core.Path.{_≡_};
 ghost use Prim.Native.Nat.{_<_};
 ghost use Rattle.spline.specs.Answers.{threeOf};
-ghost use Rattle.wide.specs.Values.{three, sums, settings, particleWith, headerWith};
+ghost use Rattle.wide.specs.Values.{weightValues, sums, settings, particleWith, headerWith};
 ghost use Rattle.wide.specs.Internal.{SameRecord, SameHeader, Narrow};
 
 // The particle to write for these numbers: a write answers and leaves what it would for the numbers themselves.
@@ -58,7 +58,7 @@ pub fn header(nx: usize, ny: usize, gx: i64, gy: i64, count: usize, steps: usize
 
 // Three weights.
 pub fn of_weights(w: AxisWeights) -> [i64; 3]
-    ensures { λ r. ⌜ r ≡ three (threeOf w) ⌝ }
+    ensures { λ r. ⌜ r ≡ weightValues (threeOf w) ⌝ }
 {
     [w.lower as i64, w.nearest as i64, w.upper as i64]
 }

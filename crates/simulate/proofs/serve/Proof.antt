@@ -2,7 +2,7 @@
 use mathlib.Core.Path.{subst}
 use Rattle.io.specs.Counts.{Counts}
 use Rattle.program.proofs.Files.{text-within}
-use Rattle.simulate.specs.Streams.{Held}
+use Rattle.simulate.specs.Streams.{ReadWithin}
 use Rattle.simulate.specs.declared.streams.Input.{Input}
 use borrow.Author.Needs.{needs}
 use Rattle.simulate.proofs.serve.Statement.{statement}
@@ -12,7 +12,7 @@ use Rattle.simulate.proofs.serve.Tie as tie
 held : (c : tie.After-known-told) → Counts (c .before .length .given .0 .0) (c .before .before .before .before .before .read-all .last .1 .0)
 held c =
     let read = c .before .before .before .before .before .read-all in
-    subst (λ (r : Input). Held r (read .last .1 .0)) (c .before .length .given .1) (read .ensures)
+    subst (λ (r : Input). ReadWithin r (read .last .1 .0)) (c .before .length .given .1) (read .ensures)
 
 read-all-requires : tie.Need-read-all-requires
 read-all-requires c κs = search needs
