@@ -1,7 +1,8 @@
 /*
  * Holds the static library and its header to what the header says: every limit of a record and of a
- * header at its edge and far beyond, refusals by name and by text, empty slices, and a file that is
- * written and read back. Exits with 1 where something differs, and says where.
+ * header at its edge and far beyond, those of a set, of a node and of an offset at their edge and one
+ * beyond, refusals by name and by text, empty slices, and a file that is written and read back. Exits
+ * with 1 where something differs, and says where.
  */
 #include <inttypes.h>
 #include <stdio.h>
@@ -204,6 +205,122 @@ static void runs(void)
     run_answers(4, 4, 0, 0, SIZE_MAX, steps);
 }
 
+/* ---- The places of a set, for each size, and its mass. */
+
+static uint8_t set[GONDWIZE_MOST_SET_LENGTH];
+
+static void put(size_t at, uint64_t m, uint64_t x, uint64_t y)
+{
+    same("put", gondwize_write_record((uint16_t)at, m, x, y, 0, 0, 0, 0, 0, 0,
+                                      set + at * GONDWIZE_RECORD_LENGTH, GONDWIZE_RECORD_LENGTH), 0);
+}
+
+static void set_answers(const char *what, size_t nx, size_t ny, size_t records, uint64_t want)
+{
+    uint64_t count = records;
+    same(what, gondwize_check_set(nx, ny, set, records * GONDWIZE_RECORD_LENGTH, &count), want);
+    same(what, count, records);
+}
+
+/* The second of two records at this place. */
+static void place_answers(size_t nx, size_t ny, uint64_t x, uint64_t y, enum gondwize_refusal number)
+{
+    put(0, 1, 64, 64);
+    put(1, 1, x, y);
+    set_answers("place", nx, ny, 2, number == 0 ? 0 : refused(number, 1));
+}
+
+static void places(void)
+{
+    const uint64_t first = GONDWIZE_FIRST_PLACE;
+    const enum gondwize_refusal off = GONDWIZE_REFUSED_POSITION, none = GONDWIZE_NOT_REFUSED;
+    for (size_t nx = GONDWIZE_LEAST_NODES; nx <= GONDWIZE_MOST_NODES; nx++) {
+        size_t ny = GONDWIZE_LEAST_NODES + GONDWIZE_MOST_NODES - nx;
+        const uint64_t right = GONDWIZE_LAST_PLACE(nx), top = GONDWIZE_LAST_PLACE(ny);
+        place_answers(nx, ny, first, first, none);
+        place_answers(nx, ny, right, top, none);
+        place_answers(nx, ny, first - 1, top, off);
+        place_answers(nx, ny, right, first - 1, off);
+        place_answers(nx, ny, right + 1, first, off);
+        place_answers(nx, ny, first, top + 1, off);
+    }
+    same("last place of 4", GONDWIZE_LAST_PLACE(4), 159);
+    same("last place of 48", GONDWIZE_LAST_PLACE(48), 2975);
+}
+
+static void total_mass(void)
+{
+    const uint64_t most = GONDWIZE_MOST_TOTAL_MASS, each = GONDWIZE_MOST_MASS;
+    const size_t last = (size_t)(most / each);
+    for (size_t k = 0; k < last; k++)
+        put(k, each, 64, 64);
+    put(last, most - last * each, 64, 64);
+    set_answers("total mass", 4, 4, last + 1, 0);
+    put(last, most - last * each + 1, 64, 64);
+    set_answers("total mass", 4, 4, last + 1, refused(GONDWIZE_REFUSED_TOTAL_MASS, last));
+}
+
+/* ---- The last node of the largest grid. */
+
+static void node_answers(uint64_t m, int64_t x, int64_t y, int64_t gx, int64_t gy,
+                         enum gondwize_refusal number)
+{
+    const size_t nodes = GONDWIZE_MOST_GRID, last = nodes - 1, side = GONDWIZE_MOST_NODES;
+    const uint64_t want = number == 0 ? 0 : refused(number, last);
+    memset(mass, 0, sizeof mass);
+    memset(px, 0, sizeof px);
+    memset(py, 0, sizeof py);
+    mass[last] = m;
+    px[last] = x;
+    py[last] = y;
+    same("node", gondwize_update(side, side, gx, gy, mass, nodes, px, nodes, py, nodes), want);
+    if (number != 0) {
+        same("refused node's px", (uint64_t)px[last], (uint64_t)x);
+        same("refused node's py", (uint64_t)py[last], (uint64_t)y);
+    }
+}
+
+static void nodes(void)
+{
+    const uint64_t most = GONDWIZE_MOST_NODE_MASS;
+    const int64_t fast = GONDWIZE_MOST_NODE_VELOCITY, pull = GONDWIZE_MOST_GRAVITY;
+    const enum gondwize_refusal heavy = GONDWIZE_REFUSED_NODE_MASS, none = GONDWIZE_NOT_REFUSED;
+    node_answers(most, 0, 0, 0, 0, none);
+    node_answers(most + 1, 0, 0, 0, 0, heavy);
+    node_answers(0, 1, 0, 0, 0, heavy);
+    node_answers(0, 0, -1, 0, 0, heavy);
+    for (int64_t sign = -1; sign <= 1; sign += 2) {
+        const int64_t edge = sign * 4 * fast, beyond = sign * 4 * (fast + 1), g = sign * pull;
+        const enum gondwize_refusal quick = GONDWIZE_REFUSED_NODE_VELOCITY;
+        node_answers(1, edge, 0, 0, 0, none);
+        same("velocity ux", (uint64_t)px[GONDWIZE_MOST_GRID - 1], (uint64_t)(sign * fast));
+        node_answers(1, 0, edge, 0, 0, none);
+        same("velocity uy", (uint64_t)py[GONDWIZE_MOST_GRID - 1], (uint64_t)(sign * fast));
+        node_answers(1, beyond, 0, 0, 0, quick);
+        node_answers(1, 0, beyond, 0, 0, quick);
+        node_answers(1, edge - 4 * g, 0, g, 0, none);
+        node_answers(1, 0, beyond - 4 * g, 0, g, quick);
+    }
+}
+
+/* ---- Offsets. */
+
+static void offsets(void)
+{
+    const int64_t within[] = {GONDWIZE_LEAST_OFFSET, 0, GONDWIZE_MOST_OFFSET};
+    const int64_t beyond[] = {GONDWIZE_LEAST_OFFSET - 1, GONDWIZE_MOST_OFFSET + 1, INT64_MIN, INT64_MAX};
+    for (size_t k = 0; k < sizeof within / sizeof *within; k++) {
+        int64_t w[GONDWIZE_WEIGHTS_VALUES] = {0, 0, 0};
+        same("offset", gondwize_weights(within[k], w), 0);
+        same("offset's weights", (uint64_t)(w[0] + w[1] + w[2]), 8192);
+    }
+    for (size_t k = 0; k < sizeof beyond / sizeof *beyond; k++) {
+        int64_t w[GONDWIZE_WEIGHTS_VALUES] = {7, 8, 9};
+        same("offset beyond", gondwize_weights(beyond[k], w), refused(GONDWIZE_REFUSED_POSITION, 0));
+        same("offset beyond leaves", (uint64_t)(w[0] * 100 + w[1] * 10 + w[2]), 789);
+    }
+}
+
 /* ---- Empty slices, at NULL. */
 
 static void empty_slices(void)
@@ -252,6 +369,8 @@ static void answers(void)
 #undef CHECKED
     same("text of 0", (uint64_t)strcmp(gondwize_refusal_text(0), "not refused"), 0);
     same("text of 18", (uint64_t)strcmp(gondwize_refusal_text(18), "unknown refusal"), 0);
+    same("number of an answer", GONDWIZE_NUMBER(UINT64_C(7) << 32 | 70000), 7);
+    same("place of an answer", GONDWIZE_PLACE(UINT64_C(7) << 32 | 70000), 70000);
     same("version", (uint64_t)strcmp(GONDWIZE_VERSION, "1.0.0"), 0);
     same("length of a file", GONDWIZE_FILE_LENGTH(3), 51);
     same("length of the longest file", GONDWIZE_FILE_LENGTH(GONDWIZE_MOST_RECORDS), GONDWIZE_MOST_FILE_LENGTH);
@@ -293,6 +412,10 @@ int main(void)
     records();
     headers();
     runs();
+    places();
+    total_mass();
+    nodes();
+    offsets();
     empty_slices();
     answers();
     files();

@@ -4,6 +4,7 @@
  *     cc -Iinclude host/c/simulate.c target/staticlib/libgondwize.a -o simulate
  */
 #include <inttypes.h>
+#include <signal.h>
 #include <stdio.h>
 
 #include "gondwize.h"
@@ -47,6 +48,10 @@ static int finished(int status)
 
 int main(void)
 {
+#ifdef SIGPIPE
+    /* A reader that left is a report that could not be written. */
+    signal(SIGPIPE, SIG_IGN);
+#endif
     size_t length = fread(file, 1, sizeof file, stdin);
     if (ferror(stdin)) {
         fputs("gondwize: the input could not be read\n", stderr);
@@ -57,9 +62,11 @@ int main(void)
     if (answer != 0) {
         uint32_t number = GONDWIZE_NUMBER(answer), place = GONDWIZE_PLACE(answer);
         printf("refused %" PRIu32 " at %" PRIu32 "\n", number, place);
-        fprintf(stderr, "gondwize: refused %" PRIu32 " at %" PRIu32 ": %s\n", number, place,
-                gondwize_refusal_text(number));
-        return finished(REFUSED_FILE);
+        int status = finished(REFUSED_FILE);
+        if (status == REFUSED_FILE)
+            fprintf(stderr, "gondwize: refused %" PRIu32 " at %" PRIu32 ": %s\n", number, place,
+                    gondwize_refusal_text(number));
+        return status;
     }
     size_t nx = (size_t)header[0], ny = (size_t)header[1], nodes = nx * ny;
     uint8_t *records = file + GONDWIZE_HEADER_LENGTH;

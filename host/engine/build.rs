@@ -2,6 +2,7 @@
 //! than what it is made from.
 
 use std::collections::{BTreeMap, BTreeSet};
+use std::env;
 use std::fs;
 use std::path::{Path, PathBuf};
 use std::time::SystemTime;
@@ -49,7 +50,9 @@ fn everything_in(path: PathBuf) -> Vec<PathBuf> {
 }
 
 fn main() {
-    let root = Path::new(env!("CARGO_MANIFEST_DIR")).join("../..");
+    // As it is at run time: a copied checkout may bring a build script that was compiled elsewhere.
+    let package = env::var_os("CARGO_MANIFEST_DIR").expect("the package's folder");
+    let root = Path::new(&package).join("../..");
     let list = root.join("crates.txt");
     let folder = root.join("target/staticlib");
     let library = folder.join(format!("lib{LIBRARY}.a"));
@@ -61,15 +64,25 @@ fn main() {
     );
 
     let names = crates_of(LIBRARY, &fs::read_to_string(&list).expect("crates.txt"));
-    let parts = names
+    assert!(
+        names.contains(LIBRARY),
+        "crates.txt has no line for {LIBRARY}"
+    );
+    let crates = names.iter().map(|name| root.join("crates").join(name));
+    let crates: Vec<PathBuf> = crates.collect();
+    if let Some(path) = crates.iter().find(|path| !path.is_dir()) {
+        panic!("{} is missing, and crates.txt lists it", path.display());
+    }
+    let parts = crates
         .iter()
-        .flat_map(|name| PARTS.map(|part| root.join("crates").join(name).join(part)));
+        .flat_map(|path| PARTS.map(|part| path.join(part)));
     let parts: Vec<PathBuf> = parts.filter(|part| part.exists()).collect();
     let built = changed(&library);
     let newer = parts
         .iter()
         .cloned()
         .flat_map(everything_in)
+        .chain([list.clone()])
         .find(|path| changed(path) > built);
     if let Some(path) = newer {
         panic!(

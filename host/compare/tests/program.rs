@@ -2,11 +2,12 @@
 
 use std::collections::BTreeSet;
 use std::io::{ErrorKind, Write};
-use std::path::{Path, PathBuf};
+use std::path::Path;
 use std::process::{Command, Output, Stdio};
 
 use compare::inputs::bath_file;
 use compare::{count, seed, stream};
+use program::program;
 use reference::report::program_by;
 use reference::{read_file, Header, Settings, Sums};
 
@@ -15,14 +16,6 @@ const ENOUGH: u64 = 3_000;
 
 /// One more than the bytes of the longest file that is accepted.
 const TOO_LONG: usize = 57_354;
-
-/// The program as it was proved and built.
-fn program() -> PathBuf {
-    let path = Path::new(env!("CARGO_MANIFEST_DIR")).join("../../target/bin/simulate");
-    let told = "run `rt check simulate` in the repository's root first";
-    path.canonicalize()
-        .unwrap_or_else(|error| panic!("{}: {error}: {told}", path.display()))
-}
 
 /// Runs the program on a file that comes through a pipe in two parts.
 fn run(program: &Path, file: &[u8], cut: usize) -> Output {

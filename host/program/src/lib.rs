@@ -104,9 +104,14 @@ impl Room {
 
     /// Copies a file or a folder of the repository, with its times.
     pub fn copy(&self, name: &str) {
-        let (from, to) = (root().join(name), self.path(name));
+        self.copy_from(&root().join(name), name);
+    }
+
+    /// Copies a file or a folder from anywhere, with its times.
+    pub fn copy_from(&self, from: &Path, name: &str) {
+        let to = self.path(name);
         fs::create_dir_all(to.parent().expect("a folder")).expect("a folder that can be written");
-        let copied = Command::new("cp").arg("-a").args([&from, &to]).status();
+        let copied = Command::new("cp").arg("-a").args([from, &to]).status();
         assert!(
             copied.is_ok_and(|status| status.success()),
             "{name} could not be copied"

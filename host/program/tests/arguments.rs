@@ -62,7 +62,8 @@ fn no_such_file_or_a_folder() {
 #[test]
 fn help_and_wrong_arguments() {
     let help = run(&["--help"]);
-    assert!(help.status == Some(0) && help.wrote.starts_with("usage: ./run [FILE]\n"));
+    let usage = "usage: ./run [FILE]\n       ./run --help\n";
+    assert!(help.status == Some(0) && help.wrote.starts_with(usage));
     assert_eq!((&help.said[..], &run(&["-h"])), ("", &help));
     for wrong in [
         &["a", "b"][..],
@@ -70,9 +71,28 @@ fn help_and_wrong_arguments() {
         &["-x"],
         &["--help", "a"],
         &["a", "b", "c"],
+        &["a"; 10],
+        &["a"; 19],
+        &["--help"; 10],
+        &["a"; 20],
     ] {
         assert_eq!(run(wrong), Ended::with(64, "", &help.wrote), "{wrong:?}");
     }
+}
+
+#[test]
+fn a_name_with_a_dash() {
+    let room = Room::new("dash");
+    std::fs::copy(root().join("examples/printed.bath"), room.path("-x")).expect("a copy");
+    let run = |name| {
+        ended(
+            Command::new(program::run())
+                .arg(name)
+                .current_dir(room.path("")),
+        )
+    };
+    assert_eq!(run("./-x"), Ended::with(0, &printed(), ""));
+    assert_eq!(run("-x").status, Some(64));
 }
 
 /// Through a link to a link, from another folder, with a file named from there.
@@ -138,6 +158,15 @@ fn refused_files() -> Vec<(u32, usize, Vec<u8>)> {
     ]
 }
 
+/// The words for a file: the header's, where those speak of nothing else.
+fn words_of_file(number: u32) -> String {
+    match number {
+        1 => "the file has the wrong length".to_owned(),
+        7 => "a position is off the grid".to_owned(),
+        _ => words(number),
+    }
+}
+
 #[test]
 fn every_refused_file_has_its_sentence() {
     let room = Room::new("refused");
@@ -150,7 +179,7 @@ fn every_refused_file_has_its_sentence() {
             String::new()
         };
         let line = format!("refused {number} at {place}");
-        let said = format!("gondwize: {line}: {}{of}\n", words(number));
+        let said = format!("gondwize: {line}: {}{of}\n", words_of_file(number));
         let told = run(&[path.to_str().expect("a name in letters")]);
         assert_eq!(told, Ended::with(2, &format!("{line}\n"), &said));
     }

@@ -2,9 +2,11 @@
 //! Most tests have a repository of three small crates and a stand-in for rt.
 
 use std::fs;
+use std::io::Read;
 use std::path::PathBuf;
 use std::process::{Command, Stdio};
 use std::thread;
+use std::time::Duration;
 
 use program::{ended, root, Ended, Room};
 
@@ -12,6 +14,9 @@ const PROVING: &str =
     "gondwize: proving and building what has changed of 2 crates (all of them: some minutes)\n";
 const PART: &str = "gondwize: crate 1 of 2: part proved (2 s)\n";
 const PROGRAM: &str = "gondwize: crate 2 of 2: simulate proved (2 s)\n";
+
+/// Longer than the grain of a file's time.
+const TICK: Duration = Duration::from_millis(50);
 
 /// The tools that `run` calls, and those of the stand-in; rt is not among them.
 const TOOLS: [&str; 19] = [
@@ -193,6 +198,51 @@ fn a_program_or_a_library_that_is_gone() {
     );
 }
 
+/// A folder of crates that takes the place of another, all of it older than the last look.
+#[test]
+fn another_folder_of_crates() {
+    let small = Small::new("replaced");
+    small
+        .room
+        .write("crates.new/part/src/lib.rt", "first part\n");
+    small
+        .room
+        .write("crates.new/simulate/src/main.rt", "second program\n");
+    thread::sleep(TICK);
+    small.room.write("crates/part/src/lib.rt", "first part\n");
+    small.shows("first part\nfirst program\n", "", 1);
+    for (from, to) in [("crates", "crates.old"), ("crates.new", "crates")] {
+        fs::rename(small.path(from), small.path(to)).expect("a folder that can be renamed");
+    }
+    small.shows(
+        "first part\nsecond program\n",
+        &format!("{PROVING}{PROGRAM}"),
+        2,
+    );
+}
+
+/// Nothing passes for unchanged that could not be looked at.
+#[test]
+fn sources_that_cannot_be_read() {
+    let small = Small::new("unread");
+    let fails = |change: &str| {
+        let told = ended(&mut small.command(false));
+        let end = "gondwize: the sources of the program could not be read\n";
+        assert!(
+            told.status == Some(3) && told.wrote.is_empty() && told.said.ends_with(end),
+            "{change}: {told:?}"
+        );
+    };
+    for gone in ["crates.txt", "crates/part", "tools/find", "tools/awk"] {
+        fs::rename(small.path(gone), small.path("aside")).expect("something to move");
+        fails(gone);
+        fs::rename(small.path("aside"), small.path(gone)).expect("something to move");
+    }
+    small.room.write("crates.txt", "other: part\npart:\n");
+    fails("no line for the program");
+    assert_eq!(small.calls(), 1);
+}
+
 #[test]
 fn a_proof_that_fails() {
     let small = Small::new("fails");
@@ -261,6 +311,27 @@ fn calls_at_the_same_time() {
             .all(|text| [&proved, waited, ""].contains(&&text[..])),
         "{said:?}"
     );
+}
+
+/// A call that another one holds up says so after a second, and not before.
+#[test]
+fn a_call_that_waits() {
+    let small = Small::new("waits");
+    let waited = "gondwize: waiting for another call, which proves and builds\n";
+    for (seconds, said) in [("0.2", ""), ("3", waited)] {
+        let mut holder = Command::new("flock");
+        holder
+            .arg(small.path("target/run.lock"))
+            .args(["sh", "-c", "echo held; exec sleep \"$1\"", "sh", seconds])
+            .stdout(Stdio::piped());
+        let mut holder = holder.spawn().expect("a command that starts");
+        let mut held = [0; 5];
+        let out = holder.stdout.as_mut().expect("a pipe");
+        out.read_exact(&mut held).expect("its line");
+        small.room.write("crates/part/src/lib.rt", "first part\n");
+        small.shows("first part\nfirst program\n", said, 1);
+        assert!(holder.wait().is_ok_and(|status| status.success()));
+    }
 }
 
 /// A program of one line for rt itself, and what it writes.
