@@ -4,14 +4,13 @@
 --                     then their gathers are the same
 --     node-grid       the list that a field fills has the field's value at each node
 -- Assumes nothing.
-use mathlib.Core.Path.{_≡_, refl, sym, ap, ap₂, _∙_}
+use mathlib.Core.Path.{_≡_, refl, ap, ap₂, _∙_}
 use mathlib.Core.List.{List, [], _∷_, map}
-use Prim.Native.Nat.{ℕ, zero, suc, _+_, _*_, _/_, _%_, _^_, _<_, _≤_}
-use native.Mathlib.Nat.{zero-add, add-zero, add-suc, suc-add, le-of-suc-le-suc, not-suc-le-zero, mul-comm, mul-le-mul-right, mul-add-mod-self-right, mul-add-div-right, mod-eq-of-lt, div-eq-of-lt}
+use Prim.Native.Nat.{ℕ, suc, _+_, _*_, _/_, _%_, _^_, _<_, _≤_}
+use native.Mathlib.Nat.{add-zero, mul-comm, mul-le-mul-right, mul-add-mod-self-right, mul-add-div-right, mod-eq-of-lt, div-eq-of-lt}
 use native.Mathlib.Omega.{arith}
-use lib.ListN.{getD}
 use lib.IntN.{ℤ, pos, natAbs, _*ℤ_}
-use Rattle.arith.specs.Sums.{from}
+use Rattle.arith.specs.Lists.{getD-tabulated}
 use Rattle.particle.specs.declared.Particle.{Particle}
 use Rattle.apic.specs.Step.{Axis, alongX, alongY, apart, weight, gatheredVelocity, gatheredAffine, newCoordinate, moved, grid, node}
 use Rattle.apic.proofs.Nodes.{nodes-cong}
@@ -51,17 +50,11 @@ module _ (round : ℤ → ℕ → ℤ) (w : ℕ → ℕ → ℤ) (nx ny : ℕ) w
     moved-fields [] = refl
     moved-fields (p ∷ ps) = ap₂ _∷_ (moved-field p) (moved-fields ps)
 
--- ---- lists
-
-range-at : {A : Type 0} (f : ℕ → A) (d : A) (i n k : ℕ) → k < n → getD (map f (from i n)) k d ≡ f (i + k)
-range-at f d i zero k h = absurd (not-suc-le-zero h)
-range-at f d i (suc n) zero h = ap f (sym (add-zero i))
-range-at f d i (suc n) (suc k) h = range-at f d (suc i) n k (le-of-suc-le-suc h) ∙ ap f (suc-add i k ∙ sym (add-suc i k))
+-- ---- grids
 
 pub node-grid : (nx ny : ℕ) (f : ℕ → ℕ → ℤ) → Agree nx ny (node nx (grid nx ny f)) f
 node-grid nx ny f i j in-x in-y =
-    range-at (λ k. f (k % nx) (k / nx)) (pos 0) 0 (nx * ny) (j * nx + i) (inside i j nx ny in-x (mul-le-mul-right nx in-y))
-    ∙ ap (λ k. f (k % nx) (k / nx)) (zero-add (j * nx + i))
+    getD-tabulated (λ k. f (k % nx) (k / nx)) (nx * ny) (j * nx + i) (pos 0) (inside i j nx ny in-x (mul-le-mul-right nx in-y))
     ∙ ap₂ f (mul-add-mod-self-right j nx i ∙ mod-eq-of-lt in-x)
     (mul-add-div-right (some i nx in-x) j i ∙ ap (λ q. j + q) (div-eq-of-lt in-x) ∙ add-zero j)
   where

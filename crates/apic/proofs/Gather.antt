@@ -2,30 +2,30 @@
 --     along              of two, the one of an axis
 --     velocitySum, affineSum
 --                        the sums that the gather divides
+--     allMoved           the particles after it
 --     NewPlace           a particle's new coordinates are not negative
---     gather-identifiers, gather-masses, gather-mass, gather-count
---                        identifiers and masses in their order, the total mass and the number of particles are kept
+--     gather-identifiers, gather-masses, gather-mass
+--                        identifiers and masses in their order, and the total mass, are kept
 --     gather-exchange    Σ M·f over nodes is Σ m·(Σ W·f) over particles
 --     gather-linear      |2·(2^34·momentum after − Σ M·u)| ≤ 2^34·mass, on each axis
 --     gather-angular     |2·(2^34·(angular momentum after) − Σ M·(X·uy − Y·ux))| ≤ 2^34·(Σ m·(x + y) + 2·mass)
 -- Assumes nothing.
 use mathlib.Core.Path.{_≡_, refl, sym, ap, ap₂, _∙_, subst₂}
 use mathlib.Core.List.{List, [], _∷_, map}
-use Prim.Native.Nat.{ℕ, suc, _+_, _*_, _^_}
+use Prim.Native.Nat.{ℕ, _+_, _*_, _^_}
 use lib.Dec.{ltb→lt}
-use lib.ListN.{length}
 use lib.IntN.{ℤ, pos, negℤ, natAbs, _+ℤ_, _-ℤ_, _*ℤ_}
 use lib.Signed.{_≤ℤ_}
 use Rattle.arith.specs.Ring.{*ℤ-assoc, *ℤ-left-comm}
 use Rattle.arith.specs.Solver.{ring, quote}
 use Rattle.arith.specs.Order.{Within, pos-nonneg, nonneg-pos, within-scale, within-sum, within-difference}
+use Rattle.arith.specs.Rounding.{Nearest}
 use Rattle.arith.specs.Sums.{Each, sumOver, sum-cong, sum-cong-each, sum-add, sum-sub, sum-scale, sum-scale-right, sum-map, sum-within, each-all, total-pos}
 use Rattle.particle.specs.declared.Particle.{Particle}
 use Rattle.apic.specs.Step.{Axis, alongX, alongY, apart, weight, nodeMass, overNodes, gatheredVelocity, gatheredAffine, newCoordinate, moved}
 use Rattle.apic.specs.Totals.{totalMass, momentum, angularMomentum, firstMoment}
 use Rattle.apic.proofs.Nodes.{nodes-cong, nodes-sub, nodes-scale, nodes-three-scaled, nodes-exchange}
-use Rattle.apic.proofs.Scatter.{place, mass-sum}
-use Rattle.apic.proofs.Rounding.{Nearest}
+use Rattle.apic.proofs.Scatter.{place, fieldMomentum, fieldAngularMomentum, mass-sum}
 
 -- of two, the one of an axis
 abbrev pub along : {A : Type 0} → Axis → A → A → A
@@ -39,6 +39,9 @@ velocitySum w nx ny u p = overNodes nx ny (λ i j. weight w p i j *ℤ u i j)
 abbrev pub affineSum : (ℕ → ℕ → ℤ) → ℕ → ℕ → Axis → (ℕ → ℕ → ℤ) → Particle → ℤ
 affineSum w nx ny b u p = overNodes nx ny (λ i j. weight w p i j *ℤ u i j *ℤ apart b p i j)
 
+abbrev pub allMoved : (ℤ → ℕ → ℤ) → (ℕ → ℕ → ℤ) → ℕ → ℕ → (ℕ → ℕ → ℤ) → (ℕ → ℕ → ℤ) → List Particle → List Particle
+allMoved round w nx ny ux uy ps = map (moved round w nx ny ux uy) ps
+
 pub record NewPlace (round : ℤ → ℕ → ℤ) (w : ℕ → ℕ → ℤ) (nx ny : ℕ) (ux uy : ℕ → ℕ → ℤ) (p : Particle) : Type 0 where
   pub new-x : pos 0 ≤ℤ newCoordinate alongX p (gatheredVelocity round w nx ny ux p)
   pub new-y : pos 0 ≤ℤ newCoordinate alongY p (gatheredVelocity round w nx ny uy p)
@@ -46,28 +49,24 @@ pub record NewPlace (round : ℤ → ℕ → ℤ) (w : ℕ → ℕ → ℤ) (nx 
 -- ---- what is kept as it is
 
 module _ (round : ℤ → ℕ → ℤ) (w : ℕ → ℕ → ℤ) (nx ny : ℕ) (ux uy : ℕ → ℕ → ℤ) where
-  pub gather-identifiers : (ps : List Particle) → map (λ p. p .identifier) (map (moved round w nx ny ux uy) ps) ≡ map (λ p. p .identifier) ps
+  pub gather-identifiers : (ps : List Particle) → map (λ p. p .identifier) (allMoved round w nx ny ux uy ps) ≡ map (λ p. p .identifier) ps
   unfolding moved
   gather-identifiers [] = refl
   gather-identifiers (p ∷ ps) = ap (λ l. p .identifier ∷ l) (gather-identifiers ps)
 
-  pub gather-masses : (ps : List Particle) → map (λ p. p .mass) (map (moved round w nx ny ux uy) ps) ≡ map (λ p. p .mass) ps
+  pub gather-masses : (ps : List Particle) → map (λ p. p .mass) (allMoved round w nx ny ux uy ps) ≡ map (λ p. p .mass) ps
   unfolding moved
   gather-masses [] = refl
   gather-masses (p ∷ ps) = ap (λ l. p .mass ∷ l) (gather-masses ps)
 
-  pub gather-mass : (ps : List Particle) → totalMass (map (moved round w nx ny ux uy) ps) ≡ totalMass ps
+  pub gather-mass : (ps : List Particle) → totalMass (allMoved round w nx ny ux uy ps) ≡ totalMass ps
   unfolding moved
   gather-mass [] = refl
   gather-mass (p ∷ ps) = ap (λ m. p .mass + m) (gather-mass ps)
 
-  pub gather-count : (ps : List Particle) → length (map (moved round w nx ny ux uy) ps) ≡ length ps
-  gather-count [] = refl
-  gather-count (p ∷ ps) = ap suc (gather-count ps)
-
 -- ---- from nodes to particles
 
-pub gather-exchange : (w : ℕ → ℕ → ℤ) (nx ny : ℕ) (ps : List Particle) (f : ℕ → ℕ → ℤ) → overNodes nx ny (λ i j. nodeMass w ps i j *ℤ f i j) ≡ sumOver ps (λ p. pos (p .mass) *ℤ velocitySum w nx ny f p)
+pub gather-exchange : (w : ℕ → ℕ → ℤ) (nx ny : ℕ) (ps : List Particle) (f : ℕ → ℕ → ℤ) → fieldMomentum w nx ny ps f ≡ sumOver ps (λ p. pos (p .mass) *ℤ velocitySum w nx ny f p)
 unfolding nodeMass
 gather-exchange w nx ny ps f =
     nodes-cong nx ny _ _ (λ i j in-x in-y. sym (sum-scale-right (f i j) (λ p. pos (p .mass) *ℤ weight w p i j) ps))
@@ -101,7 +100,7 @@ module _ (round : ℤ → ℕ → ℤ) (nearest : Nearest round) (w : ℕ → �
   affine-near b u p = nearest (affineSum w nx ny b u p) (2 ^ 34) (ltb→lt 0 (2 ^ 34) tt)
 
   module _ (ux uy : ℕ → ℕ → ℤ) (ps : List Particle) where
-    pub gather-linear : (a : Axis) → Within (pos (2 ^ 34) *ℤ pos (totalMass ps)) (pos 2 *ℤ (pos (2 ^ 34) *ℤ momentum a (map (moved round w nx ny ux uy) ps) -ℤ overNodes nx ny (λ i j. nodeMass w ps i j *ℤ along a ux uy i j)))
+    pub gather-linear : (a : Axis) → Within (pos (2 ^ 34) *ℤ pos (totalMass ps)) (pos 2 *ℤ (pos (2 ^ 34) *ℤ momentum a (allMoved round w nx ny ux uy ps) -ℤ fieldMomentum w nx ny ps (along a ux uy)))
     unfolding moved
     gather-linear a =
         subst₂ Within
@@ -110,7 +109,7 @@ module _ (round : ℤ → ℕ → ℤ) (nearest : Nearest round) (w : ℕ → �
         (allowance ps (λ p. pos 1) (λ p. gatheredVelocity round w nx ny (along a ux uy) p) (λ p. velocitySum w nx ny (along a ux uy) p)
         (λ p. velocity-near (along a ux uy) p))
       where
-        after : (a : Axis) → momentum a (map (moved round w nx ny ux uy) ps) ≡ sumOver ps (λ p. pos (p .mass) *ℤ gatheredVelocity round w nx ny (along a ux uy) p)
+        after : (a : Axis) → momentum a (allMoved round w nx ny ux uy ps) ≡ sumOver ps (λ p. pos (p .mass) *ℤ gatheredVelocity round w nx ny (along a ux uy) p)
         after alongX = sum-map (moved round w nx ny ux uy) (λ p. pos (p .mass) *ℤ p .vx) ps
         after alongY = sum-map (moved round w nx ny ux uy) (λ p. pos (p .mass) *ℤ p .vy) ps
 
@@ -150,7 +149,7 @@ module _ (round : ℤ → ℕ → ℤ) (nearest : Nearest round) (w : ℕ → �
       error : (x y vx vy bxy byx Ax Ay Cy Cx : ℤ) → x *ℤ (pos 2 *ℤ (pos (2 ^ 34) *ℤ vy -ℤ Ay)) -ℤ y *ℤ (pos 2 *ℤ (pos (2 ^ 34) *ℤ vx -ℤ Ax)) +ℤ (pos 2 *ℤ (pos (2 ^ 34) *ℤ byx -ℤ Cx) -ℤ pos 2 *ℤ (pos (2 ^ 34) *ℤ bxy -ℤ Cy)) ≡ pos 2 *ℤ (pos (2 ^ 34) *ℤ (x *ℤ vy -ℤ y *ℤ vx +ℤ byx -ℤ bxy) -ℤ (x *ℤ Ay +ℤ negℤ y *ℤ Ax +ℤ pos 1 *ℤ (Cx -ℤ Cy)))
       error x y vx vy bxy byx Ax Ay Cy Cx = ring (x ∷ y ∷ vx ∷ vy ∷ bxy ∷ byx ∷ Ax ∷ Ay ∷ Cy ∷ Cx ∷ []) (search quote depth 30 fits 20000) (search quote depth 30 fits 20000) tt
 
-  pub gather-angular : (ux uy : ℕ → ℕ → ℤ) (ps : List Particle) → Each (NewPlace round w nx ny ux uy) ps → Within (pos (2 ^ 34) *ℤ (firstMoment ps +ℤ pos 2 *ℤ pos (totalMass ps))) (pos 2 *ℤ (pos (2 ^ 34) *ℤ angularMomentum (map (moved round w nx ny ux uy) ps) -ℤ overNodes nx ny (λ i j. nodeMass w ps i j *ℤ (place alongX i j *ℤ uy i j -ℤ place alongY i j *ℤ ux i j))))
+  pub gather-angular : (ux uy : ℕ → ℕ → ℤ) (ps : List Particle) → Each (NewPlace round w nx ny ux uy) ps → Within (pos (2 ^ 34) *ℤ (firstMoment ps +ℤ pos 2 *ℤ pos (totalMass ps))) (pos 2 *ℤ (pos (2 ^ 34) *ℤ angularMomentum (allMoved round w nx ny ux uy ps) -ℤ fieldAngularMomentum w nx ny ps ux uy))
   unfolding moved
   gather-angular ux uy ps new =
       subst₂ Within
@@ -178,7 +177,7 @@ module _ (round : ℤ → ℕ → ℤ) (nearest : Nearest round) (w : ℕ → �
           ap₂ (λ x y. x *ℤ gatheredVelocity round w nx ny uy p -ℤ y *ℤ gatheredVelocity round w nx ny ux p +ℤ gatheredAffine round w nx ny alongX uy p -ℤ gatheredAffine round w nx ny alongY ux p) (sym (nonneg-pos (place .new-x))) (sym (nonneg-pos (place .new-y)))
           ∙ unmoved (pos (p .x)) (pos (p .y)) (gatheredVelocity round w nx ny ux p) (gatheredVelocity round w nx ny uy p) (gatheredAffine round w nx ny alongX uy p) (gatheredAffine round w nx ny alongY ux p)
 
-      after : angularMomentum (map (moved round w nx ny ux uy) ps) ≡ sumOver ps (λ p. pos (p .mass) *ℤ turn ux uy p)
+      after : angularMomentum (allMoved round w nx ny ux uy ps) ≡ sumOver ps (λ p. pos (p .mass) *ℤ turn ux uy p)
       after =
           sum-map (moved round w nx ny ux uy) (λ p. pos (p .mass) *ℤ (pos (p .x) *ℤ p .vy -ℤ pos (p .y) *ℤ p .vx +ℤ p .byx -ℤ p .bxy)) ps
           ∙ sum-cong-each (NewPlace round w nx ny ux uy) _ _ (λ p place. ap (λ s. pos (p .mass) *ℤ s) (same p place)) ps new

@@ -1,10 +1,10 @@
 pub mod Nodes
 pub mod Placed
 pub mod Scatter
-pub mod Rounding
 pub mod Update
 pub mod Gather
 pub mod Conservation
 pub mod Bounds
+pub mod Kernel
 pub mod Spline
 pub mod Fields

@@ -1,12 +1,13 @@
 -- A particle whose axis weights have the moments, and the sum over all nodes of a quadratic in the offsets under its weights.
 --     Placed            the moments hold on both axes
+--     Whole             D is 256 times a number above 0, so that a node's momentum, divided by mass and D/256, is in 256ths
 --     Quadratic, at     a quadratic in the offsets (dx, dy), and its value; flat: one without squares
 --     axis-quadratic    along one axis
 --     node-quadratic    over all nodes: 2^26·(constant + D·(xx + yy))
 -- Assumes nothing.
 use mathlib.Core.Path.{_≡_, ap, ap₂, _∙_}
 use mathlib.Core.List.{[], _∷_}
-use Prim.Native.Nat.{ℕ, _^_}
+use Prim.Native.Nat.{ℕ, _*_, _/_, _^_, _<_}
 use lib.IntN.{ℤ, pos, _+ℤ_, _*ℤ_}
 use Rattle.arith.specs.Solver.{ring, quote}
 use Rattle.arith.specs.Sums.{upTo, sumOver, sum-cong, sum-scale}
@@ -16,9 +17,13 @@ use Rattle.particle.specs.declared.Particle.{Particle}
 use Rattle.apic.specs.Step.{weight, apart, alongX, alongY, overNodes}
 use Rattle.apic.proofs.Nodes.{sum-three-scaled}
 
-pub record Placed (w : ℕ → ℕ → ℤ) (D : ℤ) (nx ny : ℕ) (p : Particle) : Type 0 where
-  pub along-x : Moments D nx (p .x) (w (p .x))
-  pub along-y : Moments D ny (p .y) (w (p .y))
+pub record Placed (w : ℕ → ℕ → ℤ) (D : ℕ) (nx ny : ℕ) (p : Particle) : Type 0 where
+  pub along-x : Moments (pos D) nx (p .x) (w (p .x))
+  pub along-y : Moments (pos D) ny (p .y) (w (p .y))
+
+pub record Whole (D : ℕ) : Type 0 where
+  pub some : 0 < D / 256
+  pub times : D ≡ 256 * (D / 256)
 
 -- ---- one axis
 
@@ -69,11 +74,11 @@ row-quadratic {D} {n} {x} {w} m q v dy =
     by-y : (v dy c y xx yy D : ℤ) → v *ℤ (pos 8192 *ℤ (c +ℤ y *ℤ dy +ℤ yy *ℤ (dy *ℤ dy) +ℤ D *ℤ xx)) ≡ v *ℤ (pos 8192 *ℤ (c +ℤ D *ℤ xx) +ℤ pos 8192 *ℤ y *ℤ dy +ℤ pos 8192 *ℤ yy *ℤ (dy *ℤ dy))
     by-y v dy c y xx yy D = ring (v ∷ dy ∷ c ∷ y ∷ xx ∷ yy ∷ D ∷ []) (search quote depth 30 fits 20000) (search quote depth 30 fits 20000) tt
 
-pub node-quadratic : {w : ℕ → ℕ → ℤ} {D : ℤ} {nx ny : ℕ} {p : Particle} → Placed w D nx ny p → (q : Quadratic) → overNodes nx ny (λ i j. weight w p i j *ℤ at q (apart alongX p i j) (apart alongY p i j)) ≡ pos (2 ^ 26) *ℤ (q .constant +ℤ D *ℤ (q .xx +ℤ q .yy))
+pub node-quadratic : {w : ℕ → ℕ → ℤ} {D : ℕ} {nx ny : ℕ} {p : Particle} → Placed w D nx ny p → (q : Quadratic) → overNodes nx ny (λ i j. weight w p i j *ℤ at q (apart alongX p i j) (apart alongY p i j)) ≡ pos (2 ^ 26) *ℤ (q .constant +ℤ pos D *ℤ (q .xx +ℤ q .yy))
 node-quadratic {w} {D} {nx} {ny} {p} m q =
     sum-cong _ _ (λ j. row-quadratic (m .along-x) q (w (p .y) j) (displacement (p .y) j)) (upTo ny)
-    ∙ axis-quadratic (m .along-y) (pos 8192 *ℤ (q .constant +ℤ D *ℤ q .xx)) (pos 8192 *ℤ q .y) (pos 8192 *ℤ q .yy)
-    ∙ whole (q .constant) (q .xx) (q .yy) D
+    ∙ axis-quadratic (m .along-y) (pos 8192 *ℤ (q .constant +ℤ pos D *ℤ q .xx)) (pos 8192 *ℤ q .y) (pos 8192 *ℤ q .yy)
+    ∙ whole (q .constant) (q .xx) (q .yy) (pos D)
   where
     whole : (c xx yy D : ℤ) → pos 8192 *ℤ (pos 8192 *ℤ (c +ℤ D *ℤ xx) +ℤ D *ℤ (pos 8192 *ℤ yy)) ≡ pos (2 ^ 26) *ℤ (c +ℤ D *ℤ (xx +ℤ yy))
     whole c xx yy D = ring (c ∷ xx ∷ yy ∷ D ∷ []) (search quote depth 30) (search quote depth 30) tt

@@ -1,5 +1,7 @@
 -- What the scatter keeps, exactly, for weights with the moments: one law for each total of the grid.
 --     place, carried     a node's place; what a particle brings to a node for each unit of weighted mass
+--     fieldMomentum, fieldAngularMomentum
+--                        of the nodes of a scatter, moved by fields of velocities: Σ M·u, and Σ M·(X·uy − Y·ux)
 --     mass-sum           Σ m·1 is the total mass
 --     scatter-sum        Σ over nodes of Σ over particles of m·W·(a quadratic in the offsets)
 --     scatter-mass       Σ M = 2^26·mass
@@ -26,9 +28,16 @@ place alongX i j = pos (64 * i)
 place alongY i j = pos (64 * j)
 
 -- what a particle brings to a node for each unit of weighted mass: D·v + Bx·dx + By·dy
-abbrev pub carried : ℤ → Axis → Particle → ℕ → ℕ → ℤ
+abbrev pub carried : ℕ → Axis → Particle → ℕ → ℕ → ℤ
 carried D a p i j =
-    D *ℤ velocity a p +ℤ affine a alongX p *ℤ apart alongX p i j +ℤ affine a alongY p *ℤ apart alongY p i j
+    pos D *ℤ velocity a p +ℤ affine a alongX p *ℤ apart alongX p i j +ℤ affine a alongY p *ℤ apart alongY p i j
+
+abbrev pub fieldMomentum : (ℕ → ℕ → ℤ) → ℕ → ℕ → List Particle → (ℕ → ℕ → ℤ) → ℤ
+fieldMomentum w nx ny ps u = overNodes nx ny (λ i j. nodeMass w ps i j *ℤ u i j)
+
+abbrev pub fieldAngularMomentum : (ℕ → ℕ → ℤ) → ℕ → ℕ → List Particle → (ℕ → ℕ → ℤ) → (ℕ → ℕ → ℤ) → ℤ
+fieldAngularMomentum w nx ny ps ux uy =
+    overNodes nx ny (λ i j. nodeMass w ps i j *ℤ (place alongX i j *ℤ uy i j -ℤ place alongY i j *ℤ ux i j))
 
 -- place = coordinate + offset, as a quadratic in the offsets
 abbrev reach : Axis → Particle → Quadratic
@@ -59,8 +68,8 @@ mass-sum ps = sum-cong _ _ (λ p. times-one (pos (p .mass))) ps ∙ sym (total-p
     times-one : (m : ℤ) → m *ℤ pos 1 ≡ m
     times-one m = ring (m ∷ []) (search quote depth 30) (search quote depth 30) tt
 
-module _ (w : ℕ → ℕ → ℤ) (D : ℤ) (nx ny : ℕ) (ps : List Particle) (on : Each (Placed w D nx ny) ps) where
-  pub scatter-sum : (f : Particle → ℕ → ℕ → ℤ) (q : Particle → Quadratic) (total : Particle → ℤ) → ((p : Particle) (i j : ℕ) → f p i j ≡ pos (p .mass) *ℤ weight w p i j *ℤ at (q p) (apart alongX p i j) (apart alongY p i j)) → ((p : Particle) → q p .constant +ℤ D *ℤ (q p .xx +ℤ q p .yy) ≡ total p) → overNodes nx ny (λ i j. sumOver ps (λ p. f p i j)) ≡ pos (2 ^ 26) *ℤ sumOver ps (λ p. pos (p .mass) *ℤ total p)
+module _ (w : ℕ → ℕ → ℤ) (D : ℕ) (nx ny : ℕ) (ps : List Particle) (on : Each (Placed w D nx ny) ps) where
+  pub scatter-sum : (f : Particle → ℕ → ℕ → ℤ) (q : Particle → Quadratic) (total : Particle → ℤ) → ((p : Particle) (i j : ℕ) → f p i j ≡ pos (p .mass) *ℤ weight w p i j *ℤ at (q p) (apart alongX p i j) (apart alongY p i j)) → ((p : Particle) → q p .constant +ℤ pos D *ℤ (q p .xx +ℤ q p .yy) ≡ total p) → overNodes nx ny (λ i j. sumOver ps (λ p. f p i j)) ≡ pos (2 ^ 26) *ℤ sumOver ps (λ p. pos (p .mass) *ℤ total p)
   scatter-sum f q total h k =
       nodes-exchange nx ny f ps
       ∙ sum-cong-each (Placed w D nx ny) _ _ (λ p placed. share p placed) ps on
@@ -81,7 +90,7 @@ module _ (w : ℕ → ℕ → ℤ) (D : ℤ) (nx ny : ℕ) (ps : List Particle) 
   scatter-mass =
       scatter-sum (λ p i j. pos (p .mass) *ℤ weight w p i j) (λ p. flat (pos 1) (pos 0) (pos 0)) (λ p. pos 1)
       (λ p i j. one (pos (p .mass)) (weight w p i j) (apart alongX p i j) (apart alongY p i j))
-      (λ p. unchanged (pos 1) D)
+      (λ p. unchanged (pos 1) (pos D))
       ∙ ap (λ s. pos (2 ^ 26) *ℤ s) (mass-sum ps)
 
   pub scatter-moment : (a : Axis) → overNodes nx ny (λ i j. place a i j *ℤ nodeMass w ps i j) ≡ pos (2 ^ 26) *ℤ sumOver ps (λ p. pos (p .mass) *ℤ pos (coordinate a p))
@@ -94,27 +103,27 @@ module _ (w : ℕ → ℕ → ℤ) (D : ℤ) (nx ny : ℕ) (ps : List Particle) 
       there alongX p i j = right-of (pos (p .mass)) (weight w p i j) (pos (p .x)) (pos (64 * i)) (apart alongY p i j)
       there alongY p i j = above (pos (p .mass)) (weight w p i j) (pos (p .y)) (pos (64 * j)) (apart alongX p i j)
 
-      stays : (a : Axis) (p : Particle) → reach a p .constant +ℤ D *ℤ (reach a p .xx +ℤ reach a p .yy) ≡ pos (coordinate a p)
-      stays alongX p = unchanged (pos (p .x)) D
-      stays alongY p = unchanged (pos (p .y)) D
+      stays : (a : Axis) (p : Particle) → reach a p .constant +ℤ pos D *ℤ (reach a p .xx +ℤ reach a p .yy) ≡ pos (coordinate a p)
+      stays alongX p = unchanged (pos (p .x)) (pos D)
+      stays alongY p = unchanged (pos (p .y)) (pos D)
 
-  pub scatter-linear : (a : Axis) → overNodes nx ny (nodeMomentum w D a ps) ≡ pos (2 ^ 26) *ℤ (D *ℤ momentum a ps)
+  pub scatter-linear : (a : Axis) → overNodes nx ny (nodeMomentum w D a ps) ≡ pos (2 ^ 26) *ℤ (pos D *ℤ momentum a ps)
   unfolding nodeMomentum
   scatter-linear a =
-      scatter-sum _ (λ p. flat (D *ℤ velocity a p) (affine a alongX p) (affine a alongY p)) (λ p. D *ℤ velocity a p)
-      (λ p i j. line (pos (p .mass)) (weight w p i j) (D *ℤ velocity a p) (affine a alongX p) (affine a alongY p) (apart alongX p i j) (apart alongY p i j))
-      (λ p. unchanged (D *ℤ velocity a p) D)
+      scatter-sum _ (λ p. flat (pos D *ℤ velocity a p) (affine a alongX p) (affine a alongY p)) (λ p. pos D *ℤ velocity a p)
+      (λ p i j. line (pos (p .mass)) (weight w p i j) (pos D *ℤ velocity a p) (affine a alongX p) (affine a alongY p) (apart alongX p i j) (apart alongY p i j))
+      (λ p. unchanged (pos D *ℤ velocity a p) (pos D))
       ∙ ap (λ s. pos (2 ^ 26) *ℤ s)
-      (sum-cong _ _ (λ p. *ℤ-left-comm (pos (p .mass)) D (velocity a p)) ps ∙ sum-scale D (λ p. pos (p .mass) *ℤ velocity a p) ps)
+      (sum-cong _ _ (λ p. *ℤ-left-comm (pos (p .mass)) (pos D) (velocity a p)) ps ∙ sum-scale (pos D) (λ p. pos (p .mass) *ℤ velocity a p) ps)
 
-  pub scatter-angular : overNodes nx ny (λ i j. place alongX i j *ℤ nodeMomentum w D alongY ps i j -ℤ place alongY i j *ℤ nodeMomentum w D alongX ps i j) ≡ pos (2 ^ 26) *ℤ (D *ℤ angularMomentum ps)
+  pub scatter-angular : overNodes nx ny (λ i j. place alongX i j *ℤ nodeMomentum w D alongY ps i j -ℤ place alongY i j *ℤ nodeMomentum w D alongX ps i j) ≡ pos (2 ^ 26) *ℤ (pos D *ℤ angularMomentum ps)
   unfolding nodeMomentum
   scatter-angular =
       nodes-cong nx ny _ _ (λ i j in-x in-y. inside i j)
-      ∙ scatter-sum turn quadratic (λ p. D *ℤ (pos (p .x) *ℤ p .vy -ℤ pos (p .y) *ℤ p .vx +ℤ p .byx -ℤ p .bxy)) share kept
+      ∙ scatter-sum turn quadratic (λ p. pos D *ℤ (pos (p .x) *ℤ p .vy -ℤ pos (p .y) *ℤ p .vx +ℤ p .byx -ℤ p .bxy)) share kept
       ∙ ap (λ s. pos (2 ^ 26) *ℤ s)
-      (sum-cong _ _ (λ p. *ℤ-left-comm (pos (p .mass)) D (pos (p .x) *ℤ p .vy -ℤ pos (p .y) *ℤ p .vx +ℤ p .byx -ℤ p .bxy)) ps
-      ∙ sum-scale D (λ p. pos (p .mass) *ℤ (pos (p .x) *ℤ p .vy -ℤ pos (p .y) *ℤ p .vx +ℤ p .byx -ℤ p .bxy)) ps)
+      (sum-cong _ _ (λ p. *ℤ-left-comm (pos (p .mass)) (pos D) (pos (p .x) *ℤ p .vy -ℤ pos (p .y) *ℤ p .vx +ℤ p .byx -ℤ p .bxy)) ps
+      ∙ sum-scale (pos D) (λ p. pos (p .mass) *ℤ (pos (p .x) *ℤ p .vy -ℤ pos (p .y) *ℤ p .vx +ℤ p .byx -ℤ p .bxy)) ps)
     where
       given : Axis → Particle → ℕ → ℕ → ℤ
       given a p i j = pos (p .mass) *ℤ weight w p i j *ℤ carried D a p i j
@@ -125,9 +134,9 @@ module _ (w : ℕ → ℕ → ℤ) (D : ℤ) (nx ny : ℕ) (ps : List Particle) 
       quadratic : Particle → Quadratic
       quadratic p =
           record {
-            constant = D *ℤ (pos (p .x) *ℤ p .vy -ℤ pos (p .y) *ℤ p .vx);
-            x = pos (p .x) *ℤ p .byx +ℤ D *ℤ p .vy -ℤ pos (p .y) *ℤ p .bxx;
-            y = pos (p .x) *ℤ p .byy -ℤ D *ℤ p .vx -ℤ pos (p .y) *ℤ p .bxy;
+            constant = pos D *ℤ (pos (p .x) *ℤ p .vy -ℤ pos (p .y) *ℤ p .vx);
+            x = pos (p .x) *ℤ p .byx +ℤ pos D *ℤ p .vy -ℤ pos (p .y) *ℤ p .bxx;
+            y = pos (p .x) *ℤ p .byy -ℤ pos D *ℤ p .vx -ℤ pos (p .y) *ℤ p .bxy;
             xx = p .byx;
             xy = p .byy -ℤ p .bxx;
             yy = negℤ (p .bxy);
@@ -139,13 +148,13 @@ module _ (w : ℕ → ℕ → ℤ) (D : ℤ) (nx ny : ℕ) (ps : List Particle) 
           ∙ sym (sum-sub (λ p. place alongX i j *ℤ given alongY p i j) (λ p. place alongY i j *ℤ given alongX p i j) ps)
 
       share : (p : Particle) (i j : ℕ) → turn p i j ≡ pos (p .mass) *ℤ weight w p i j *ℤ at (quadratic p) (apart alongX p i j) (apart alongY p i j)
-      share p i j = product (pos (p .mass) *ℤ weight w p i j) D (pos (p .x)) (pos (p .y)) (pos (64 * i)) (pos (64 * j)) (p .vx) (p .vy) (p .bxx) (p .bxy) (p .byx) (p .byy)
+      share p i j = product (pos (p .mass) *ℤ weight w p i j) (pos D) (pos (p .x)) (pos (p .y)) (pos (64 * i)) (pos (64 * j)) (p .vx) (p .vy) (p .bxx) (p .bxy) (p .byx) (p .byy)
         where
           product : (k D x y X Y vx vy bxx bxy byx byy : ℤ) → X *ℤ (k *ℤ (D *ℤ vy +ℤ byx *ℤ (X -ℤ x) +ℤ byy *ℤ (Y -ℤ y))) -ℤ Y *ℤ (k *ℤ (D *ℤ vx +ℤ bxx *ℤ (X -ℤ x) +ℤ bxy *ℤ (Y -ℤ y))) ≡ k *ℤ (D *ℤ (x *ℤ vy -ℤ y *ℤ vx) +ℤ (x *ℤ byx +ℤ D *ℤ vy -ℤ y *ℤ bxx) *ℤ (X -ℤ x) +ℤ (x *ℤ byy -ℤ D *ℤ vx -ℤ y *ℤ bxy) *ℤ (Y -ℤ y) +ℤ byx *ℤ ((X -ℤ x) *ℤ (X -ℤ x)) +ℤ (byy -ℤ bxx) *ℤ ((X -ℤ x) *ℤ (Y -ℤ y)) +ℤ negℤ bxy *ℤ ((Y -ℤ y) *ℤ (Y -ℤ y)))
           product k D x y X Y vx vy bxx bxy byx byy = ring (k ∷ D ∷ x ∷ y ∷ X ∷ Y ∷ vx ∷ vy ∷ bxx ∷ bxy ∷ byx ∷ byy ∷ []) (search quote depth 40 fits 40000) (search quote depth 40 fits 40000) tt
 
-      kept : (p : Particle) → quadratic p .constant +ℤ D *ℤ (quadratic p .xx +ℤ quadratic p .yy) ≡ D *ℤ (pos (p .x) *ℤ p .vy -ℤ pos (p .y) *ℤ p .vx +ℤ p .byx -ℤ p .bxy)
-      kept p = total D (pos (p .x) *ℤ p .vy -ℤ pos (p .y) *ℤ p .vx) (p .byx) (p .bxy)
+      kept : (p : Particle) → quadratic p .constant +ℤ pos D *ℤ (quadratic p .xx +ℤ quadratic p .yy) ≡ pos D *ℤ (pos (p .x) *ℤ p .vy -ℤ pos (p .y) *ℤ p .vx +ℤ p .byx -ℤ p .bxy)
+      kept p = total (pos D) (pos (p .x) *ℤ p .vy -ℤ pos (p .y) *ℤ p .vx) (p .byx) (p .bxy)
         where
           total : (D c byx bxy : ℤ) → D *ℤ c +ℤ D *ℤ (byx +ℤ negℤ bxy) ≡ D *ℤ (c +ℤ byx -ℤ bxy)
           total D c byx bxy = ring (D ∷ c ∷ byx ∷ bxy ∷ []) (search quote depth 30) (search quote depth 30) tt

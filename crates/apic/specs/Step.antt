@@ -1,10 +1,10 @@
 -- Document 01, "The step": source document 003's transfers (3) and (4) in whole numbers.
--- The weights w of an axis (w x i: node i for a particle at x), D and the rounding are parameters. The engine's are
--- spline's axisWeight, 1024, and rounding to nearest with halves away from zero. Assumes nothing.
+-- The weights w of an axis (w x i: node i for a particle at x), their second moment D and the rounding are parameters. The
+-- engine's are spline's axisWeight and D, and arith's rounded. Assumes nothing.
 use mathlib.Core.List.{List, map}
 use Prim.Native.Nat.{ℕ, zero, suc, _+_, _*_, _/_, _%_, _^_}
 use lib.ListN.{getD}
-use lib.IntN.{ℤ, pos, natAbs, _+ℤ_, _-ℤ_, _*ℤ_}
+use lib.IntN.{ℤ, pos, natAbs, _+ℤ_, _*ℤ_}
 use Rattle.arith.specs.Sums.{sumOver, upTo}
 use Rattle.spline.specs.Spline.{displacement}
 use Rattle.particle.specs.declared.Particle.{Particle}
@@ -43,19 +43,19 @@ unfoldable pub nodeMass : (ℕ → ℕ → ℤ) → List Particle → ℕ → �
 nodeMass w ps i j = sumOver ps (λ p. pos (p .mass) *ℤ weight w p i j)
 
 -- momentum on axis a = Σ m·w·(D·va + Bax·dx + Bay·dy) over all particles
-unfoldable pub nodeMomentum : (ℕ → ℕ → ℤ) → ℤ → Axis → List Particle → ℕ → ℕ → ℤ
+unfoldable pub nodeMomentum : (ℕ → ℕ → ℤ) → ℕ → Axis → List Particle → ℕ → ℕ → ℤ
 nodeMomentum w D a ps i j =
     sumOver ps
     (λ p.
     pos (p .mass) *ℤ weight w p i j
-    *ℤ (D *ℤ velocity a p +ℤ affine a alongX p *ℤ apart alongX p i j +ℤ affine a alongY p *ℤ apart alongY p i j))
+    *ℤ (pos D *ℤ velocity a p +ℤ affine a alongX p *ℤ apart alongX p i j +ℤ affine a alongY p *ℤ apart alongY p i j))
 
 -- ---- update
 
--- where the mass M is above 0, velocity in 256ths = momentum/(4M), rounded, plus gravity; where M is 0 it is 0
-unfoldable pub nodeVelocity : (ℤ → ℕ → ℤ) → ℤ → ℕ → ℤ → ℤ
-nodeVelocity round g zero momentum = pos 0
-nodeVelocity round g (suc M) momentum = round momentum (4 * suc M) +ℤ g
+-- where the mass M is above 0, velocity in 256ths = momentum/(M·D/256), rounded, plus gravity; where M is 0 it is 0
+unfoldable pub nodeVelocity : (ℤ → ℕ → ℤ) → ℕ → ℤ → ℕ → ℤ → ℤ
+nodeVelocity round D g zero momentum = pos 0
+nodeVelocity round D g (suc M) momentum = round momentum (D / 256 * suc M) +ℤ g
 
 -- ---- gather, transfer (4)
 
@@ -99,3 +99,12 @@ grid nx ny f = map (λ k. f (k % nx) (k / nx)) (upTo (nx * ny))
 
 abbrev pub node : ℕ → List ℤ → ℕ → ℕ → ℤ
 node nx u i j = getD u (j * nx + i) (pos 0)
+
+-- the three grids: node masses, and momenta or velocities on each axis
+pub record Grids : Type 0 where
+  pub mass : List ℕ
+  pub x : List ℤ
+  pub y : List ℤ
+
+abbrev pub gridsOf : List ℕ → List ℤ → List ℤ → Grids
+gridsOf mass x y = record { mass = mass; x = x; y = y }

@@ -5,3 +5,5 @@ pub mod Size
 pub mod Machine
 pub mod Rounding
 pub mod Sums
+pub mod Lists
+pub mod Neighbours

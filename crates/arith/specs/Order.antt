@@ -1,11 +1,11 @@
 -- The order of the integers of lib.IntN: linear facts in one line, the laws by name, and allowances.
 --     linear                        a linear fact from others, in one line (below)
---     ≤ℤ-trans, ≤ℤ-<ℤ-trans, ≤ℤ-antisym, ≤ℤ-of-eq, ≤ℤ-of-<ℤ, ≤ℤ-total       the order
---     leZ-true, leZ-false, ltZ-true, ltZ-false      what a test's flag tells; ≤ℤ-leZ, <ℤ-leZ, <ℤ-ltZ, ≤ℤ-ltZ     the flag from the fact
+--     ≤ℤ-trans, ≤ℤ-antisym, ≤ℤ-of-eq, ≤ℤ-of-<ℤ, ≤ℤ-total                   the order
+--     leZ-true, leZ-false, ltZ-true, ltZ-false      what a test's flag tells; ≤ℤ-leZ, <ℤ-leZ     the flag from the fact
 --     pos-mono, pos-cancel, pos-nonneg, nonneg-pos  the natural numbers among the integers
---     +ℤ-mono, -ℤ-mono, negℤ-anti, difference-nonneg, ≤ℤ-of-difference         sums and differences
---     *ℤ-nonneg, *ℤ-mono-left, *ℤ-mono-right, *ℤ-cancel-left, square-nonneg    products
---     Within k z                    -k ≤ z ≤ k: within-sum, -difference, -neg, -scale, -cancel, -product, -widen, -zero, -of, -nonneg, -equal
+--     +ℤ-mono, difference-nonneg                    sums and differences
+--     *ℤ-nonneg, *ℤ-mono-left, *ℤ-cancel-left       products
+--     Within k z                    -k ≤ z ≤ k: within-sum, -difference, -scale, -cancel, -widen, -zero, -of
 -- In one line: `linear (x ∷ y ∷ []) (h & k) (search reading depth 30) (omega arith)` proves a goal `a ≤ℤ b`, `a <ℤ b`, `a ≡ b`, `Within k z` or `⊥`, or one between natural numbers, from h and k, which are such facts (`nothing` for none).
 -- The list holds what counts as an unknown: variables, or any other integers. What is made of these, of numerals and of `pos n` by +ℤ, -ℤ, negℤ and *ℤ is read; a product of unknowns is multiplied out, and its terms are unknowns.
 -- Facts of natural numbers in scope are used unasked, and more may be listed: `omega (arith, fact)`. A longer goal wants `depth 30 fits 20000`. `_≤ℤ_` binds tighter than `+ℤ`: parenthesise.
@@ -275,9 +275,6 @@ pub ≤ℤ-of-eq : {a b : ℤ} → a ≡ b → a ≤ℤ b
 pub ≤ℤ-of-<ℤ : {a b : ℤ} → a <ℤ b → a ≤ℤ b
 ≤ℤ-of-<ℤ {a} {b} h = linear (a ∷ b ∷ []) h (search reading depth 30) (omega arith)
 
-pub ≤ℤ-<ℤ-trans : {a b c : ℤ} → a ≤ℤ b → b <ℤ c → a <ℤ c
-≤ℤ-<ℤ-trans {a} {b} {c} h k = linear (a ∷ b ∷ c ∷ []) (h & k) (search reading depth 30) (omega arith)
-
 -- the one or the other, as the test says
 tested : (a b : ℤ) (t : Bool) → leZ a b ≡ t → (a ≤ℤ b) ⊎ (b <ℤ a)
 tested a b true e = inl (leZ-yes (subst T (sym e) tt))
@@ -320,29 +317,13 @@ pub ≤ℤ-leZ : {a b : ℤ} → a ≤ℤ b → leZ a b ≡ true
 pub <ℤ-leZ : {a b : ℤ} → b <ℤ a → leZ a b ≡ false
 <ℤ-leZ {a} {b} h = is-false (leZ a b) (λ t. clashℤ h (leZ-yes t))
 
-pub <ℤ-ltZ : {a b : ℤ} → a <ℤ b → ltZ a b ≡ true
-<ℤ-ltZ {a} {b} h = is-true (ltZ a b) (h .lt)
-
-pub ≤ℤ-ltZ : {a b : ℤ} → b ≤ℤ a → ltZ a b ≡ false
-≤ℤ-ltZ {a} {b} h = is-false (ltZ a b) (λ t. clashℤ (ltZ-yes t) h)
-
 -- ---- the order and the operations
 
 pub +ℤ-mono : {a b c d : ℤ} → a ≤ℤ b → c ≤ℤ d → (a +ℤ c) ≤ℤ (b +ℤ d)
 +ℤ-mono {a} {b} {c} {d} h k = linear (a ∷ b ∷ c ∷ d ∷ []) (h & k) (search reading depth 30) (omega arith)
 
-pub negℤ-anti : {a b : ℤ} → a ≤ℤ b → negℤ b ≤ℤ negℤ a
-negℤ-anti {a} {b} h = linear (a ∷ b ∷ []) h (search reading depth 30) (omega arith)
-
-pub -ℤ-mono : {a b c d : ℤ} → a ≤ℤ b → d ≤ℤ c → (a -ℤ c) ≤ℤ (b -ℤ d)
--ℤ-mono {a} {b} {c} {d} h k = linear (a ∷ b ∷ c ∷ d ∷ []) (h & k) (search reading depth 30) (omega arith)
-
--- a ≤ b where the difference is not negative
 pub difference-nonneg : {a b : ℤ} → a ≤ℤ b → pos 0 ≤ℤ (b -ℤ a)
 difference-nonneg {a} {b} h = linear (a ∷ b ∷ []) h (search reading depth 30) (omega arith)
-
-pub ≤ℤ-of-difference : {a b : ℤ} → pos 0 ≤ℤ (b -ℤ a) → a ≤ℤ b
-≤ℤ-of-difference {a} {b} h = linear (a ∷ b ∷ []) h (search reading depth 30) (omega arith)
 
 pub pos-nonneg : (n : ℕ) → pos 0 ≤ℤ pos n
 pos-nonneg n = pos-mono (omega arith)
@@ -358,10 +339,6 @@ pub *ℤ-mono-left : {a b c : ℤ} → pos 0 ≤ℤ c → a ≤ℤ b → (c *ℤ
 *ℤ-mono-left {a} {b} {c} h k =
     linear (a ∷ b ∷ c ∷ []) (*ℤ-nonneg h (difference-nonneg k)) (search reading depth 30) (omega arith)
 
-pub *ℤ-mono-right : {a b c : ℤ} → pos 0 ≤ℤ c → a ≤ℤ b → (a *ℤ c) ≤ℤ (b *ℤ c)
-*ℤ-mono-right {a} {b} {c} h k =
-    linear (a ∷ b ∷ c ∷ []) (*ℤ-nonneg h (difference-nonneg k)) (search reading depth 30) (omega arith)
-
 pub *ℤ-cancel-left : {a b c : ℤ} → pos 0 <ℤ c → (c *ℤ a) ≤ℤ (c *ℤ b) → a ≤ℤ b
 *ℤ-cancel-left {a} {b} {c} h k = ⊎-elim (λ l. l) (λ l. absurd (never (*ℤ-mono-left (≤ℤ-of-<ℤ h) (next l)))) (≤ℤ-total a b)
   where
@@ -370,10 +347,6 @@ pub *ℤ-cancel-left : {a b c : ℤ} → pos 0 <ℤ c → (c *ℤ a) ≤ℤ (c *
 
     never : (c *ℤ (b +ℤ pos 1)) ≤ℤ (c *ℤ a) → ⊥
     never m = linear (a ∷ b ∷ c ∷ []) (h & k & m) (search reading depth 30) (omega arith)
-
-pub square-nonneg : (a : ℤ) → pos 0 ≤ℤ (a *ℤ a)
-square-nonneg (pos n) = pos-nonneg (n * n)
-square-nonneg (negsuc n) = pos-nonneg (suc n * suc n)
 
 -- ---- allowances
 
@@ -384,17 +357,7 @@ module _ {k m x y : ℤ} where
   pub within-difference : Within k x → Within m y → Within (k +ℤ m) (x -ℤ y)
   within-difference p q = linear (k ∷ m ∷ x ∷ y ∷ []) (p & q) (search reading depth 30) (omega arith)
 
-  pub within-product : Within k x → Within m y → Within (k *ℤ m) (x *ℤ y)
-  within-product p q =
-      record {
-        low = linear (k ∷ m ∷ x ∷ y ∷ []) (*ℤ-nonneg (difference-nonneg (p .high)) (difference-nonneg (q .high)) & *ℤ-nonneg (difference-nonneg (p .low)) (difference-nonneg (q .low))) (search reading depth 30) (omega arith);
-        high = linear (k ∷ m ∷ x ∷ y ∷ []) (*ℤ-nonneg (difference-nonneg (p .high)) (difference-nonneg (q .low)) & *ℤ-nonneg (difference-nonneg (p .low)) (difference-nonneg (q .high))) (search reading depth 30) (omega arith);
-      }
-
 module _ {k x : ℤ} where
-  pub within-neg : Within k x → Within k (negℤ x)
-  within-neg p = linear (k ∷ x ∷ []) p (search reading depth 30) (omega arith)
-
   pub within-scale : {c : ℤ} → pos 0 ≤ℤ c → Within k x → Within (c *ℤ k) (c *ℤ x)
   within-scale {c} h p =
       linear (c ∷ k ∷ x ∷ []) (*ℤ-mono-left h (p .low) & *ℤ-mono-left h (p .high)) (search reading depth 30) (omega arith)
@@ -402,17 +365,11 @@ module _ {k x : ℤ} where
   pub within-widen : {m : ℤ} → k ≤ℤ m → Within k x → Within m x
   within-widen {m} h p = linear (k ∷ x ∷ m ∷ []) (h & p) (search reading depth 30) (omega arith)
 
-  pub within-nonneg : Within k x → pos 0 ≤ℤ k
-  within-nonneg p = linear (k ∷ x ∷ []) p (search reading depth 30) (omega arith)
-
   pub within-of : pos 0 ≤ℤ x → x ≤ℤ k → Within k x
   within-of h l = linear (k ∷ x ∷ []) (h & l) (search reading depth 30) (omega arith)
 
 pub within-zero : {k : ℤ} → pos 0 ≤ℤ k → Within k (pos 0)
 within-zero {k} h = linear (k ∷ []) h (search reading depth 30) (omega arith)
-
-pub within-equal : {k x y : ℤ} → x ≡ y → Within k x → Within k y
-within-equal {k} e p = subst (λ z. Within k z) e p
 
 pub within-cancel : {c k x : ℤ} → pos 0 <ℤ c → Within (c *ℤ k) (c *ℤ x) → Within k x
 within-cancel {c} {k} {x} h p =

@@ -1,14 +1,14 @@
 -- The commutative ring of the integers of lib.IntN, as far as that module leaves it open, and what follows at once.
 --     ℤ-steps                              induction by successor and predecessor
 --     *ℤ-assoc, *ℤ-+ℤ, +ℤ-*ℤ               the product associates and distributes
---     *ℤ-negℤ, negℤ-*ℤ                     a sign moves out of a product
---     +ℤ-left-comm, *ℤ-left-comm           for sorting sums and products by simp
---     sum-ac, product-ac                   rulesets: a sum or a product is sorted
---     eq-of-difference, difference-of-eq   two integers are equal where their difference is zero
+--     negℤ-*ℤ                              a sign moves out of a product
+--     +ℤ-left-comm, *ℤ-left-comm           for sorting
+--     sum-ac                               a ruleset: a sum is sorted
+--     eq-of-difference                     two integers are equal where their difference is zero
 -- Assumes nothing.
-use mathlib.Core.Path.{_≡_, refl, sym, ap, _∙_, _≡⟨_⟩_, _∎}
-use Prim.Native.Nat.{ℕ, zero, suc}
-use lib.IntN.{ℤ, pos, negsuc, sucℤ, predℤ, negℤ, _+ℤ_, _-ℤ_, _*ℤ_, +ℤ-assoc, +ℤ-comm, +ℤ-idl, +ℤ-idr, +ℤ-invr, +ℤ-invl, sucℤ-+ℤ, predℤ-+ℤ, sucℤ-*ℤ, predℤ-*ℤ, zero-*ℤ, *ℤ-zero, *ℤ-comm, negℤ-+ℤ, negℤ-negℤ, negℤ-sucℤ, negℤ-predℤ, -ℤ-+ℤ-cancel}
+use mathlib.Core.Path.{_≡_, sym, ap, _∙_}
+use Prim.Native.Nat.{zero, suc}
+use lib.IntN.{ℤ, pos, negsuc, sucℤ, predℤ, negℤ, _+ℤ_, _-ℤ_, _*ℤ_, +ℤ-assoc, +ℤ-comm, +ℤ-idl, +ℤ-idr, +ℤ-invr, +ℤ-invl, sucℤ-+ℤ, predℤ-+ℤ, sucℤ-*ℤ, predℤ-*ℤ, zero-*ℤ, *ℤ-comm, negℤ-negℤ}
 
 pub ℤ-steps : (P : ℤ → Type 0) → P (pos zero) → ((m : ℤ) → P m → P (sucℤ m)) → ((m : ℤ) → P m → P (predℤ m)) → (k : ℤ) → P k
 ℤ-steps P z s p (pos zero) = z
@@ -54,9 +54,6 @@ pub negℤ-*ℤ : (a b : ℤ) → negℤ a *ℤ b ≡ negℤ (a *ℤ b)
 negℤ-*ℤ a b =
     neg-unique (negℤ a *ℤ b) (a *ℤ b) (sym (+ℤ-*ℤ (negℤ a) a b) ∙ ap (λ z. z *ℤ b) (+ℤ-invl a) ∙ zero-*ℤ b)
 
-pub *ℤ-negℤ : (a b : ℤ) → a *ℤ negℤ b ≡ negℤ (a *ℤ b)
-*ℤ-negℤ a b = *ℤ-comm a (negℤ b) ∙ negℤ-*ℤ b a ∙ ap negℤ (*ℤ-comm b a)
-
 pub *ℤ-assoc : (a b c : ℤ) → (a *ℤ b) *ℤ c ≡ a *ℤ (b *ℤ c)
 *ℤ-assoc a b c =
     ℤ-steps (λ z. (z *ℤ b) *ℤ c ≡ z *ℤ (b *ℤ c))
@@ -77,10 +74,5 @@ pub *ℤ-assoc : (a b c : ℤ) → (a *ℤ b) *ℤ c ≡ a *ℤ (b *ℤ c)
 pub *ℤ-left-comm : (a b c : ℤ) → a *ℤ (b *ℤ c) ≡ b *ℤ (a *ℤ c)
 *ℤ-left-comm a b c = sym (*ℤ-assoc a b c) ∙ ap (λ z. z *ℤ c) (*ℤ-comm a b) ∙ *ℤ-assoc b a c
 
-pub ruleset product-ac = (*ℤ-assoc, *ℤ-comm, *ℤ-left-comm)
-
 pub eq-of-difference : (a b : ℤ) → a -ℤ b ≡ pos zero → a ≡ b
 eq-of-difference a b h = neg-unique a (negℤ b) h ∙ negℤ-negℤ b
-
-pub difference-of-eq : (a b : ℤ) → a ≡ b → a -ℤ b ≡ pos zero
-difference-of-eq a b h = ap (λ z. z -ℤ b) h ∙ +ℤ-invr b

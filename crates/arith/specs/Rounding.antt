@@ -1,27 +1,30 @@
 -- Rounding of n / d, n an integer and d a positive natural number: to nearest; at a half, as the rule says.
 --     floor, rest                   n / d rounded down, and what that leaves of n
 --     nearest rule n d              n / d to nearest; where it is a half above its floor, up if the rule says so of the floor
---     halvesAway                    the rule in use: halves go away from zero
---     nearest-error                 for every rule, |2·(d·r - n)| ≤ d
+--     halvesAway, rounded           the rule in use, halves go away from zero; and the rounding with it
+--     Nearest                       what the laws over any rounding use of it: |2·(d·r - n)| ≤ d
+--     near-bound                    then |n| ≤ k·d gives |r| ≤ k
+--     nearest-error                 nearest is one, for every rule
 --     nearest-unique, nearest-exact only r is less than a half away; a multiple of d is not rounded
---     nearest-bound, nearest-size   for every rule, |n| ≤ k·d gives |r| ≤ k; |r| ≤ |n|/d + 1
---     away-above, away-below        halvesAway: 2·(d·r - n) is above -d where n ≥ 0, below d where n < 0
+--     nearest-bound                 |n| ≤ k·d gives |r| ≤ k
+--     rounded-error, rounded-exact, rounded-bound
+--                                   these three for the rule in use
+--     away-above, away-below        rounded: 2·(d·r - n) is above -d where n ≥ 0, below d where n < 0
 --     nearest-pos, nearest-neg      .. by magnitudes: (2·a + d) / (2·d), with the sign of n
 --     nearest-odd                   .. of -n, the negative of that of n
 --     nearest-half, nearest-half-neg               .. with d = 2·h, by magnitudes: (a + h) / (2·h)
 --     nearest-shift, -up, -down                    .. with d = 2·h, by the shift that rounds down: of n + h, less one where n < 0
---     nearest-quotient-up, -down                   .. with d = 2·h, by the division toward zero: of n + h, or of n - h where n < 0
 -- Assumes nothing.
 use mathlib.Core.Path.{_≡_, refl, sym, ap, _∙_, subst}
 use mathlib.Core.Bool.{Bool, true, false, cond, _&&_, _||_}
 use mathlib.Core.List.{[], _∷_}
 use mathlib.Core.Logic.{⊎-elim}
 use Prim.Native.Nat.{ℕ, zero, suc, _+_, _*_, _/_, _<_}
-use native.Mathlib.Nat.{div-add-mod, mod-lt, div-eq-of-lt, lt-irrefl}
+use native.Mathlib.Nat.{div-add-mod, mod-lt, div-eq-of-lt}
 use native.Mathlib.Omega.{arith}
 use lib.Dec.{T}
-use lib.IntN.{ℤ, pos, negsuc, negℤ, natAbs, _+ℤ_, _-ℤ_, _*ℤ_, +ℤ-idr, negℤ-negℤ}
-use lib.Signed.{ltZ, leZ, nonNeg, shrZ, quotZ, _≤ℤ_, _<ℤ_, clashℤ, ltZ-yes}
+use lib.IntN.{ℤ, pos, negsuc, negℤ, _+ℤ_, _-ℤ_, _*ℤ_, +ℤ-idr, negℤ-negℤ}
+use lib.Signed.{ltZ, leZ, nonNeg, shrZ, _≤ℤ_, _<ℤ_, clashℤ, ltZ-yes}
 use Rattle.arith.specs.Order.{Within, linear, reading, _&_, nothing, leZ-true, leZ-false, ltZ-true, ltZ-false, ≤ℤ-total, ≤ℤ-antisym, *ℤ-mono-left, pos-nonneg}
 use Rattle.arith.specs.Size.{Bound, bound-within, within-bound}
 
@@ -42,17 +45,24 @@ nearest rule n d = cond (goesUp rule n d) (floor n d +ℤ pos 1) (floor n d)
 abbrev pub halvesAway : ℤ → Bool
 halvesAway q = nonNeg q
 
+-- the engine's rounding: every definition that rounds cites it
+abbrev pub rounded : ℤ → ℕ → ℤ
+rounded = nearest halvesAway
+
+abbrev pub Nearest : (ℤ → ℕ → ℤ) → Type 0
+Nearest round = (n : ℤ) (d : ℕ) → zero < d → Within (pos d) (pos 2 *ℤ (pos d *ℤ round n d -ℤ n))
+
 -- ---- at work: 1/2, -1/2, 3/2, -3/2; 1/3, 2/3, -2/3; about a half of 2^34
 
-halves : (nearest halvesAway (pos 1) 2 ≡ pos 1) × ((nearest halvesAway (negsuc 0) 2 ≡ negsuc 0) × ((nearest halvesAway (pos 3) 2 ≡ pos 2) × (nearest halvesAway (negsuc 2) 2 ≡ negsuc 1)))
+halves : (rounded (pos 1) 2 ≡ pos 1) × ((rounded (negsuc 0) 2 ≡ negsuc 0) × ((rounded (pos 3) 2 ≡ pos 2) × (rounded (negsuc 2) 2 ≡ negsuc 1)))
 unfolding nearest
 halves = (refl, (refl, (refl, refl)))
 
-thirds : (nearest halvesAway (pos 1) 3 ≡ pos 0) × ((nearest halvesAway (pos 2) 3 ≡ pos 1) × (nearest halvesAway (negsuc 1) 3 ≡ negsuc 0))
+thirds : (rounded (pos 1) 3 ≡ pos 0) × ((rounded (pos 2) 3 ≡ pos 1) × (rounded (negsuc 1) 3 ≡ negsuc 0))
 unfolding nearest
 thirds = (refl, (refl, refl))
 
-large : (nearest halvesAway (pos 8589934591) 17179869184 ≡ pos 0) × ((nearest halvesAway (pos 8589934592) 17179869184 ≡ pos 1) × (nearest halvesAway (negsuc 8589934591) 17179869184 ≡ negsuc 0))
+large : (rounded (pos 8589934591) 17179869184 ≡ pos 0) × ((rounded (pos 8589934592) 17179869184 ≡ pos 1) × (rounded (negsuc 8589934591) 17179869184 ≡ negsuc 0))
 unfolding nearest
 large = (refl, (refl, refl))
 
@@ -84,6 +94,18 @@ floor-unique n q d h l u =
     (cancel d (floor n d) q (linear (n ∷ q ∷ floor n d ∷ []) (rest-nonneg n d h & u) (search reading depth 30) (omega arith)))
     (cancel d q (floor n d) (linear (n ∷ q ∷ floor n d ∷ []) (rest-below n d h & l) (search reading depth 30) (omega arith)))
 
+-- ---- any rounding at most a half away
+
+pub near-bound : (round : ℤ → ℕ → ℤ) → Nearest round → (n : ℤ) (d k : ℕ) → zero < d → Bound n (k * d) → Bound (round n d) k
+near-bound round near n d k h b = within-bound (within (round n d) (near n d h) (bound-within b))
+  where
+    within : (r : ℤ) → Within (pos d) (pos 2 *ℤ (pos d *ℤ r -ℤ n)) → Within (pos (k * d)) n → Within (pos k) r
+    within r e b =
+        record {
+          low = cancel d (negℤ (pos k)) r (linear (n ∷ r ∷ []) (e & b) (search reading depth 30) (omega arith));
+          high = cancel d r (pos k) (linear (n ∷ r ∷ []) (e & b) (search reading depth 30) (omega arith));
+        }
+
 -- ---- to nearest, for every rule
 
 pick : (p q r : Bool) (P : ℤ → Type 0) (x y : ℤ) → (p ≡ true → P x) → (q ≡ false → P y) → (p ≡ false → q ≡ true → r ≡ true → P x) → (p ≡ false → q ≡ true → r ≡ false → P y) → P (cond (p || (q && r)) x y)
@@ -111,7 +133,7 @@ nearest-cases rule n d P past short up down =
     half : ltZ (pos d) (pos 2 *ℤ rest n d) ≡ false → leZ (pos d) (pos 2 *ℤ rest n d) ≡ true → pos 2 *ℤ rest n d ≡ pos d
     half e f = ≤ℤ-antisym (ltZ-false (pos d) (pos 2 *ℤ rest n d) e) (leZ-true (pos d) (pos 2 *ℤ rest n d) f)
 
-pub nearest-error : (rule : ℤ → Bool) (n : ℤ) (d : ℕ) → zero < d → Within (pos d) (pos 2 *ℤ (pos d *ℤ nearest rule n d -ℤ n))
+pub nearest-error : (rule : ℤ → Bool) → Nearest (nearest rule)
 nearest-error rule n d h =
     nearest-cases rule n d (λ r. Within (pos d) (pos 2 *ℤ (pos d *ℤ r -ℤ n)))
     (λ l. linear (n ∷ floor n d ∷ []) (l & rest-below n d h) (search reading depth 30) (omega arith))
@@ -139,23 +161,22 @@ nearest-exact rule k d h =
     (linear (k ∷ []) nothing (search reading depth 30) (omega arith))
 
 pub nearest-bound : (rule : ℤ → Bool) (n : ℤ) (d k : ℕ) → zero < d → Bound n (k * d) → Bound (nearest rule n d) k
-nearest-bound rule n d k h b =
-    within-bound
-    (within (nearest rule n d) (nearest-error rule n d h) (bound-within b))
-  where
-    within : (r : ℤ) → Within (pos d) (pos 2 *ℤ (pos d *ℤ r -ℤ n)) → Within (pos (k * d)) n → Within (pos k) r
-    within r e b =
-        record {
-          low = cancel d (negℤ (pos k)) r (linear (n ∷ r ∷ []) (e & b) (search reading depth 30) (omega arith));
-          high = cancel d r (pos k) (linear (n ∷ r ∷ []) (e & b) (search reading depth 30) (omega arith));
-        }
+nearest-bound rule = near-bound (nearest rule) (nearest-error rule)
 
-pub nearest-size : (rule : ℤ → Bool) (n : ℤ) (d : ℕ) → zero < d → Bound (nearest rule n d) (natAbs n / d + 1)
-nearest-size rule n d h = nearest-bound rule n d (natAbs n / d + 1) h (record { size = omega (arith, div-add-mod (natAbs n) d, mod-lt (natAbs n) h) })
+-- ---- the rule in use
+
+pub rounded-error : Nearest rounded
+rounded-error = nearest-error halvesAway
+
+pub rounded-exact : (k : ℤ) (d : ℕ) → zero < d → rounded (pos d *ℤ k) d ≡ k
+rounded-exact = nearest-exact halvesAway
+
+pub rounded-bound : (n : ℤ) (d k : ℕ) → zero < d → Bound n (k * d) → Bound (rounded n d) k
+rounded-bound = nearest-bound halvesAway
 
 -- ---- halves away from zero
 
-pub away-above : (n : ℤ) (d : ℕ) → zero < d → pos 0 ≤ℤ n → negℤ (pos d) <ℤ (pos 2 *ℤ (pos d *ℤ nearest halvesAway n d -ℤ n))
+pub away-above : (n : ℤ) (d : ℕ) → zero < d → pos 0 ≤ℤ n → negℤ (pos d) <ℤ (pos 2 *ℤ (pos d *ℤ rounded n d -ℤ n))
 away-above (pos a) d h l =
     nearest-cases halvesAway (pos a) d (λ r. negℤ (pos d) <ℤ (pos 2 *ℤ (pos d *ℤ r -ℤ pos a)))
     (λ _. linear (floor (pos a) d ∷ []) (rest-below (pos a) d h) (search reading depth 30) (omega arith))
@@ -164,7 +185,7 @@ away-above (pos a) d h l =
     (λ _ e. absurd (subst T e tt))
 away-above (negsuc a) d h l = absurd (l .le)
 
-pub away-below : (n : ℤ) (d : ℕ) → zero < d → n <ℤ pos 0 → (pos 2 *ℤ (pos d *ℤ nearest halvesAway n d -ℤ n)) <ℤ pos d
+pub away-below : (n : ℤ) (d : ℕ) → zero < d → n <ℤ pos 0 → (pos 2 *ℤ (pos d *ℤ rounded n d -ℤ n)) <ℤ pos d
 away-below (pos a) d h l = clashℤ l (pos-nonneg a)
 away-below (negsuc a) d h l =
     nearest-cases halvesAway (negsuc a) d (λ r. (pos 2 *ℤ (pos d *ℤ r -ℤ negsuc a)) <ℤ pos d)
@@ -173,21 +194,21 @@ away-below (negsuc a) d h l =
     (λ _ e. absurd (subst T (sym e) tt))
     (λ e _. linear (floor (negsuc a) d ∷ []) e (search reading depth 30) (omega arith))
 
-pub nearest-pos : (a d : ℕ) → zero < d → nearest halvesAway (pos a) d ≡ pos ((2 * a + d) / (2 * d))
+pub nearest-pos : (a d : ℕ) → zero < d → rounded (pos a) d ≡ pos ((2 * a + d) / (2 * d))
 nearest-pos a d h =
-    sym (floor-unique (pos (2 * a + d)) (nearest halvesAway (pos a) d) (2 * d) (omega arith)
-    (linear (nearest halvesAway (pos a) d ∷ []) (nearest-error halvesAway (pos a) d h) (search reading depth 30) (omega arith))
-    (linear (nearest halvesAway (pos a) d ∷ []) (away-above (pos a) d h (pos-nonneg a)) (search reading depth 30) (omega arith)))
+    sym (floor-unique (pos (2 * a + d)) (rounded (pos a) d) (2 * d) (omega arith)
+    (linear (rounded (pos a) d ∷ []) (rounded-error (pos a) d h) (search reading depth 30) (omega arith))
+    (linear (rounded (pos a) d ∷ []) (away-above (pos a) d h (pos-nonneg a)) (search reading depth 30) (omega arith)))
 
-pub nearest-neg : (a d : ℕ) → zero < d → nearest halvesAway (negℤ (pos a)) d ≡ negℤ (pos ((2 * a + d) / (2 * d)))
+pub nearest-neg : (a d : ℕ) → zero < d → rounded (negℤ (pos a)) d ≡ negℤ (pos ((2 * a + d) / (2 * d)))
 nearest-neg zero d h = nearest-pos zero d h ∙ ap pos none ∙ sym (ap (λ m. negℤ (pos m)) none)
   where
     none : (2 * zero + d) / (2 * d) ≡ zero
     none = div-eq-of-lt (omega arith)
 nearest-neg (suc a) d h =
     ≤ℤ-antisym
-    (ordered (negsuc a) (nearest halvesAway (negsuc a) d) (negℤ (pos ((2 * suc a + d) / (2 * d)))) d (away-below (negsuc a) d h (ltZ-yes tt)) low)
-    (ordered (negsuc a) (negℤ (pos ((2 * suc a + d) / (2 * d)))) (nearest halvesAway (negsuc a) d) d high (nearest-error halvesAway (negsuc a) d h .low))
+    (ordered (negsuc a) (rounded (negsuc a) d) (negℤ (pos ((2 * suc a + d) / (2 * d)))) d (away-below (negsuc a) d h (ltZ-yes tt)) low)
+    (ordered (negsuc a) (negℤ (pos ((2 * suc a + d) / (2 * d)))) (rounded (negsuc a) d) d high (rounded-error (negsuc a) d h .low))
   where
     low : negℤ (pos d) ≤ℤ (pos 2 *ℤ (pos d *ℤ negℤ (pos ((2 * suc a + d) / (2 * d))) -ℤ negsuc a))
     low = linear [] nothing (search reading depth 30) (omega (arith, div-add-mod (2 * suc a + d) (2 * d)))
@@ -195,44 +216,30 @@ nearest-neg (suc a) d h =
     high : (pos 2 *ℤ (pos d *ℤ negℤ (pos ((2 * suc a + d) / (2 * d))) -ℤ negsuc a)) <ℤ pos d
     high = linear [] nothing (search reading depth 30) (omega (arith, div-add-mod (2 * suc a + d) (2 * d), mod-lt (2 * suc a + d) {m = 2 * d} (omega arith)))
 
-pub nearest-odd : (n : ℤ) (d : ℕ) → zero < d → nearest halvesAway (negℤ n) d ≡ negℤ (nearest halvesAway n d)
+pub nearest-odd : (n : ℤ) (d : ℕ) → zero < d → rounded (negℤ n) d ≡ negℤ (rounded n d)
 nearest-odd (pos a) d h = nearest-neg a d h ∙ ap negℤ (sym (nearest-pos a d h))
 nearest-odd (negsuc a) d h = nearest-pos (suc a) d h ∙ sym (negℤ-negℤ (pos ((2 * suc a + d) / (2 * d)))) ∙ ap negℤ (sym (nearest-neg (suc a) d h))
 
 -- ---- by an even divisor
 
-pub nearest-shift-up : (n : ℤ) (h : ℕ) → zero < h → pos 0 ≤ℤ n → nearest halvesAway n (2 * h) ≡ shrZ (n +ℤ pos h) (2 * h)
+pub nearest-shift-up : (n : ℤ) (h : ℕ) → zero < h → pos 0 ≤ℤ n → rounded n (2 * h) ≡ shrZ (n +ℤ pos h) (2 * h)
 nearest-shift-up n h p l =
-    sym (floor-unique (n +ℤ pos h) (nearest halvesAway n (2 * h)) (2 * h) (omega arith)
-    (linear (n ∷ nearest halvesAway n (2 * h) ∷ []) (nearest-error halvesAway n (2 * h) (omega arith)) (search reading depth 30) (omega arith))
-    (linear (n ∷ nearest halvesAway n (2 * h) ∷ []) (away-above n (2 * h) (omega arith) l) (search reading depth 30) (omega arith)))
+    sym (floor-unique (n +ℤ pos h) (rounded n (2 * h)) (2 * h) (omega arith)
+    (linear (n ∷ rounded n (2 * h) ∷ []) (rounded-error n (2 * h) (omega arith)) (search reading depth 30) (omega arith))
+    (linear (n ∷ rounded n (2 * h) ∷ []) (away-above n (2 * h) (omega arith) l) (search reading depth 30) (omega arith)))
 
-pub nearest-shift-down : (n : ℤ) (h : ℕ) → zero < h → n <ℤ pos 0 → nearest halvesAway n (2 * h) ≡ shrZ (n +ℤ pos h -ℤ pos 1) (2 * h)
+pub nearest-shift-down : (n : ℤ) (h : ℕ) → zero < h → n <ℤ pos 0 → rounded n (2 * h) ≡ shrZ (n +ℤ pos h -ℤ pos 1) (2 * h)
 nearest-shift-down n h p l =
-    sym (floor-unique (n +ℤ pos h -ℤ pos 1) (nearest halvesAway n (2 * h)) (2 * h) (omega arith)
-    (linear (n ∷ nearest halvesAway n (2 * h) ∷ []) (away-below n (2 * h) (omega arith) l) (search reading depth 30) (omega arith))
-    (linear (n ∷ nearest halvesAway n (2 * h) ∷ []) (nearest-error halvesAway n (2 * h) (omega arith)) (search reading depth 30) (omega arith)))
+    sym (floor-unique (n +ℤ pos h -ℤ pos 1) (rounded n (2 * h)) (2 * h) (omega arith)
+    (linear (n ∷ rounded n (2 * h) ∷ []) (away-below n (2 * h) (omega arith) l) (search reading depth 30) (omega arith))
+    (linear (n ∷ rounded n (2 * h) ∷ []) (rounded-error n (2 * h) (omega arith)) (search reading depth 30) (omega arith)))
 
-pub nearest-shift : (n : ℤ) (h : ℕ) → zero < h → nearest halvesAway n (2 * h) ≡ shrZ (n +ℤ pos h -ℤ cond (nonNeg n) (pos 0) (pos 1)) (2 * h)
+pub nearest-shift : (n : ℤ) (h : ℕ) → zero < h → rounded n (2 * h) ≡ shrZ (n +ℤ pos h -ℤ cond (nonNeg n) (pos 0) (pos 1)) (2 * h)
 nearest-shift (pos a) h p = nearest-shift-up (pos a) h p (pos-nonneg a) ∙ ap (λ z. shrZ z (2 * h)) (sym (+ℤ-idr (pos (a + h))))
 nearest-shift (negsuc a) h p = nearest-shift-down (negsuc a) h p (ltZ-yes tt)
 
-pub nearest-half : (a h : ℕ) → zero < h → nearest halvesAway (pos a) (2 * h) ≡ pos ((a + h) / (2 * h))
+pub nearest-half : (a h : ℕ) → zero < h → rounded (pos a) (2 * h) ≡ pos ((a + h) / (2 * h))
 nearest-half a h p = nearest-shift-up (pos a) h p (pos-nonneg a)
 
-pub nearest-half-neg : (a h : ℕ) → zero < h → nearest halvesAway (negℤ (pos a)) (2 * h) ≡ negℤ (pos ((a + h) / (2 * h)))
+pub nearest-half-neg : (a h : ℕ) → zero < h → rounded (negℤ (pos a)) (2 * h) ≡ negℤ (pos ((a + h) / (2 * h)))
 nearest-half-neg a h p = nearest-odd (pos a) (2 * h) (omega arith) ∙ ap negℤ (nearest-half a h p)
-
--- the division that rounds toward zero, of n + h or n - h
-pub nearest-quotient-up : (n : ℤ) (h : ℕ) → zero < h → pos 0 ≤ℤ n → nearest halvesAway n (2 * h) ≡ quotZ (n +ℤ pos h) (pos (2 * h))
-nearest-quotient-up (pos a) h p l = nearest-half a h p
-nearest-quotient-up (negsuc a) h p l = absurd (l .le)
-
-pub nearest-quotient-down : (n : ℤ) (h : ℕ) → zero < h → n <ℤ pos 0 → nearest halvesAway n (2 * h) ≡ quotZ (n -ℤ pos h) (pos (2 * h))
-nearest-quotient-down (pos a) h p l = clashℤ l (pos-nonneg a)
-nearest-quotient-down (negsuc a) zero p l = absurd (lt-irrefl zero p)
-nearest-quotient-down (negsuc a) (suc h) p l =
-    nearest-half-neg (suc a) (suc h) p ∙ ap (λ m. negℤ (pos (m / (2 * suc h)))) sum
-  where
-    sum : suc a + suc h ≡ suc (suc (a + h))
-    sum = omega arith

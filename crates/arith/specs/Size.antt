@@ -1,11 +1,11 @@
 -- Bounds on the size of an integer, and that it fits a machine number.
 --     Bound z n                     |z| ≤ n
---     natAbs-sum .. natAbs-neg      the size of a sum, a difference, a product, a negative
---     bound-sum .. bound-shift      a bound of a sum, a difference, a product, .., from bounds of the parts
+--     natAbs-sum, -product, -neg    the size of a sum, a product, a negative
+--     bound-sum .. bound-shift      a bound of a sum, a product, .., from bounds of the parts
 --     bound-within, within-bound    to Order's Within and back
---     Size z, sizes                 some bound of z, found by search (machine-sizes: `toZ w n` is bounded by its width)
+--     Size z, sizes                 some bound of z, found by search
 --     fits, bounded, bounded-by     what a found bound gives
--- In one line: `fits (search sizes depth 20) tt : SFits w64 (m *ℤ w *ℤ (pos 1024 *ℤ v +ℤ b *ℤ x))`, where `Bound m 1023` and so on are in scope: the bound is found from these by the operations, and `tt` compares two numerals.
+-- In one line: `fits (search sizes depth 20) tt : SFits w64 (m *ℤ w *ℤ (pos 4096 *ℤ v +ℤ b *ℤ x))`, where `Bound m 1000` and so on are in scope: the bound is found from these by the operations, and `tt` compares two numerals.
 -- Parts that need no `Bound`: a numeral; `pos n` with `n ≤ k` or `n < k` in scope; an integer with `Within (pos k) z` or `SFits w z` in scope. A fact that is not in scope is listed: `search (sizes, h .small) depth 20`. Of two bounds in scope the last one serves.
 -- Assumes nothing.
 use mathlib.Core.Path.{_≡_, refl, sym, _∙_, subst}
@@ -14,11 +14,10 @@ use Prim.Native.Nat.{ℕ, zero, suc, _+_, _*_, _-_, _/_, _^_, _≤_, _<_}
 use native.Mathlib.Nat.{le-refl, le-trans, mul-le-mul, lt-of-le-of-lt, le-of-eq, le-div-iff-mul-le, div-mul-le-self, div-zero}
 use native.Mathlib.Omega.{arith}
 use lib.Dec.{T, leb, ltb, eqb, leb→le, ltb→lt}
-use lib.IntN.{ℤ, pos, negsuc, negℤ, natAbs, _+ℤ_, _-ℤ_, _*ℤ_}
+use lib.IntN.{ℤ, pos, negsuc, negℤ, natAbs, _+ℤ_, _*ℤ_}
 use lib.Signed.{mag, shrZ, natAbs-le}
 use mir.Syntax.{Width}
-use mir.Val.{SFits, Fits, hbits, toZ}
-use mir.Facts.{sfits-toZ}
+use mir.Val.{SFits, hbits}
 use Rattle.arith.specs.Order.{Within, linear, reading, within-sum}
 
 pub record Bound (z : ℤ) (n : ℕ) : Type 0 where
@@ -50,9 +49,6 @@ bound-sum h k = within-bound (within-sum (bound-within h) (bound-within k))
 pub bound-neg : {a : ℤ} {m : ℕ} → Bound a m → Bound (negℤ a) m
 bound-neg {a} {m} h = record { size = rw (natAbs-neg a) (h .size) }
 
-pub bound-difference : {a b : ℤ} {m n : ℕ} → Bound a m → Bound b n → Bound (a -ℤ b) (m + n)
-bound-difference h k = bound-sum h (bound-neg k)
-
 pub natAbs-product : (a b : ℤ) → natAbs (a *ℤ b) ≡ natAbs a * natAbs b
 natAbs-product (pos a) (pos b) = refl
 natAbs-product (pos a) (negsuc b) = natAbs-neg (pos (a * suc b))
@@ -61,9 +57,6 @@ natAbs-product (negsuc a) (negsuc b) = refl
 
 pub natAbs-sum : (a b : ℤ) → natAbs (a +ℤ b) ≤ natAbs a + natAbs b
 natAbs-sum a b = bound-sum (bound-self a) (bound-self b) .size
-
-pub natAbs-difference : (a b : ℤ) → natAbs (a -ℤ b) ≤ natAbs a + natAbs b
-natAbs-difference a b = bound-difference (bound-self a) (bound-self b) .size
 
 pub bound-product : {a b : ℤ} {m n : ℕ} → Bound a m → Bound b n → Bound (a *ℤ b) (m * n)
 bound-product {a} {b} h k = record { size = rw (natAbs-product a b) (mul-le-mul (h .size) (k .size)) }
@@ -119,9 +112,6 @@ size-within {z} {n} h = record { most = n; holds = within-bound h }
 abbrev pub size-machine : {w : Width} {z : ℤ} → SFits w z → Size z
 size-machine {w} {z} f = record { most = 2 ^ hbits w; holds = bound-machine f }
 
-abbrev pub size-toZ : (w : Width) (n : ℕ) → Fits w n → Size (toZ w n)
-size-toZ w n f = record { most = 2 ^ hbits w; holds = bound-machine (sfits-toZ f) }
-
 -- a numeral: the test computes at numerals only
 abbrev pub size-numeral : (n : ℕ) → T (eqb n n) → Size (pos n)
 size-numeral n t = record { most = n; holds = bound-self (pos n) }
@@ -158,9 +148,6 @@ abbrev pub size-pos-product : (m n : ℕ) → Size (pos m) → Size (pos n) → 
 size-pos-product m n s t = record { most = s .most * t .most; holds = bound-product (s .holds) (t .holds) }
 
 pub ruleset sizes = (size-given, size-numeral, size-negative, size-pos, size-below, size-within, size-machine, size-sum, size-neg, size-product, size-shift, size-pos-sum, size-pos-product, tt)
-
--- with the machine numbers of which no more is known than that
-pub ruleset machine-sizes = (sizes, size-toZ)
 
 -- by one comparison of numerals
 pub fits : {w : Width} {z : ℤ} (s : Size z) → T (ltb (s .most) (2 ^ hbits w)) → SFits w z

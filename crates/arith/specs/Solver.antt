@@ -12,9 +12,9 @@ use mathlib.Core.List.{List, [], _∷_}
 use Prim.Native.Nat.{ℕ, zero, suc, _+_, _*_}
 use native.Mathlib.Nat.{mul-one}
 use lib.Dec.{T, eqb}
-use lib.IntN.{ℤ, pos, negsuc, negℤ, _+ℤ_, _-ℤ_, _*ℤ_, +ℤ-assoc, +ℤ-comm, +ℤ-idl, +ℤ-idr, zero-*ℤ, *ℤ-zero, *ℤ-comm, negℤ-+ℤ, pos-+ℤ-pos, pos-*ℤ-pos}
+use lib.IntN.{ℤ, pos, negsuc, negℤ, _+ℤ_, _*ℤ_, +ℤ-assoc, +ℤ-comm, +ℤ-idl, +ℤ-idr, *ℤ-zero, *ℤ-comm}
 use mir.Facts.{and-yes}
-use Rattle.arith.specs.Ring.{+ℤ-*ℤ, *ℤ-+ℤ, *ℤ-assoc, *ℤ-negℤ, negℤ-*ℤ, *ℤ-left-comm, +ℤ-left-comm, sum-ac, product-ac, eq-of-difference}
+use Rattle.arith.specs.Ring.{+ℤ-*ℤ, *ℤ-+ℤ, *ℤ-assoc, negℤ-*ℤ, *ℤ-left-comm, sum-ac, eq-of-difference}
 
 -- ---- expressions
 

@@ -1,19 +1,20 @@
 -- The answers of reading a file and of writing a header, way by way, and what an accepted header says.
 --     too-short, header-..      the header's checks
 --     HeaderHeld, header-held   what an accepted header says of the file
---     wrong-length, records-..  the checks of the records
+--     wrong-records, right-records, records-..   the checks of the records
 --     after, long, judged, allowed   the answer of a write, and the buffer that goes with it
 -- Assumes nothing.
 use Prim.Native.Nat.{ℕ, _+_, _*_, _≤_, _<_}
-use mathlib.Core.Path.{_≡_, refl, ap, subst, _∙_}
-use mathlib.Core.Bool.{Bool, true, false, not}
+use mathlib.Core.Path.{_≡_, ap, subst, _∙_}
+use mathlib.Core.Bool.{not}
 use mathlib.Core.List.{List}
 use borrow.Author.Tests.{eq-eqb, ne-eqb, eqb-true, lt-ltb, le-ltb, ltb-false, not-false}
 use lib.Dec.{ltb, eqb}
 use lib.IntN.{natAbs}
 use lib.ListN.{length, take}
 use Rattle.refusal.specs.Refused.{Answer, result, refused, refuseIf, andThen, keptUnless}
-use Rattle.refusal.proofs.Answers.{passed, went-on, same-result, same-refusal, not-refused}
+use Rattle.refusal.proofs.Answers.{passed, went-on, same-result, same-refusal, not-refused, wrong-length, right-length, length-passed}
+use Rattle.particle.specs.Layout.{recordLength}
 use Rattle.particles.specs.Set.{setOf}
 use Rattle.particles.specs.Walk.{counted}
 use Rattle.bath_file.specs.declared.Header.{Header}
@@ -83,26 +84,30 @@ module _ (bytes : List ℕ) where
 
 module _ (h : Header) (bytes : List ℕ) where
   abbrev fileLength : ℕ
-  fileLength = 9 + 14 * h .count
+  fileLength = headerLength + recordLength * h .count
 
   abbrev set : Answer Header
   set = andThen (setOf (h .nx) (h .ny) headerLength bytes (h .count)) (λ _. result h)
 
-  pub wrong-length : (length bytes ≡ fileLength → ⊥) → recordsAnswer h bytes ≡ refused 1 0
+  pub wrong-records : (length bytes ≡ fileLength → ⊥) → recordsAnswer h bytes ≡ refused 1 0
   unfolding recordsAnswer
-  wrong-length n = rw (ne-eqb (length bytes) fileLength n)
+  wrong-records n = wrong-length (length bytes) fileLength _ n
 
-  pub right-length : length bytes ≡ fileLength → recordsAnswer h bytes ≡ set
+  pub right-records : length bytes ≡ fileLength → recordsAnswer h bytes ≡ set
   unfolding recordsAnswer
-  right-length n = rw (eq-eqb (length bytes) fileLength n)
+  right-records n = right-length (length bytes) fileLength _ n
+
+  pub records-passed : {g : Header} → recordsAnswer h bytes ≡ result g → (length bytes ≡ fileLength) × (set ≡ result g)
+  unfolding recordsAnswer
+  records-passed e = length-passed (length bytes) fileLength _ e
 
   pub records-accepted : length bytes ≡ fileLength → {m : ℕ} → counted (h .nx) (h .ny) headerLength bytes (h .count) ≡ result m → recordsAnswer h bytes ≡ result h
   records-accepted n e =
       let w = went-on (setOf (h .nx) (h .ny) headerLength bytes (h .count)) _ e in
-      right-length n ∙ ap (λ a. andThen a (λ _. result h)) (w .1)
+      right-records n ∙ ap (λ a. andThen a (λ _. result h)) (w .1)
 
   pub records-refused : length bytes ≡ fileLength → {n k : ℕ} → counted (h .nx) (h .ny) headerLength bytes (h .count) ≡ refused n k → recordsAnswer h bytes ≡ refused n k
-  records-refused n e = right-length n ∙ go (setOf (h .nx) (h .ny) headerLength bytes (h .count)) length e
+  records-refused n e = right-records n ∙ go (setOf (h .nx) (h .ny) headerLength bytes (h .count)) length e
     where
       go : {A B : Type 0} (a : Answer A) (f : A → B) {n k : ℕ} → andThen a (λ x. result (f x)) ≡ refused n k → andThen a (λ _. result h) ≡ refused n k
       go (result x) f e = not-refused e
@@ -118,11 +123,11 @@ module _ (h : Header) (bytes : List ℕ) where
 
   pub long : (length bytes ≡ headerLength → ⊥) → writeAnswer h bytes ≡ refused 1 0
   unfolding writeAnswer
-  long n = rw (ne-eqb (length bytes) headerLength n)
+  long n = wrong-length (length bytes) headerLength _ n
 
   judged : length bytes ≡ headerLength → writeAnswer h bytes ≡ checkedHeader h (result tt)
   unfolding writeAnswer
-  judged n = rw (eq-eqb (length bytes) headerLength n)
+  judged n = right-length (length bytes) headerLength _ n
 
   pub write-refused : length bytes ≡ headerLength → {n k : ℕ} → checkedHeader h (result h) ≡ refused n k → writeAnswer h bytes ≡ refused n k
   write-refused n e = judged n ∙ refuses h h (result tt) e
@@ -133,5 +138,5 @@ module _ (h : Header) (bytes : List ℕ) where
   pub allowed : writeAnswer h bytes ≡ result tt → (length bytes ≡ headerLength) × Valid h
   unfolding writeAnswer
   allowed e =
-      let l = passed (not (eqb (length bytes) headerLength)) 1 0 _ e in
-      (eqb-true (length bytes) headerLength (not-false (eqb (length bytes) headerLength) (l .0)), valid h (result tt) (l .1) .0)
+      let l = length-passed (length bytes) headerLength _ e in
+      (l .0, valid h (result tt) (l .1) .0)

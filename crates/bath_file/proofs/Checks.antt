@@ -4,25 +4,25 @@
 --     refuses           a header that is refused is refused alike before any rest
 -- Assumes nothing.
 use Prim.Native.Nat.{ℕ, _≤_}
-use native.Mathlib.Omega.{arith}
-use mathlib.Core.Path.{_≡_, refl}
+use mathlib.Core.Path.{_≡_}
 use mathlib.Core.Bool.{Bool, true, false, not, _&&_}
 use lib.Dec.{ltb}
 use lib.IntN.{natAbs}
 use borrow.Author.Tests.{not-false, ltb-false, le-ltb}
 use Rattle.refusal.specs.Refused.{Answer, result, refused, refuseIf}
 use Rattle.refusal.proofs.Answers.{passed, same-refusal, not-refused}
-use Rattle.particle.proofs.Valid.{two-within, two-within-back}
+use Rattle.limits.specs.Limits.{mostRecords, mostGravity, mostSteps, validGravity}
+use Rattle.limits.proofs.Within.{two-within, two-within-back}
 use Rattle.particles.specs.Set.{validSize}
 use Rattle.bath_file.specs.declared.Header.{Header}
-use Rattle.bath_file.specs.File.{validGravity, checkedHeader}
+use Rattle.bath_file.specs.File.{checkedHeader}
 
 pub record Valid (h : Header) : Type 0 where
   pub size : validSize (h .nx) (h .ny) ≡ true
-  pub gx-to : natAbs (h .gx) ≤ 4096
-  pub gy-to : natAbs (h .gy) ≤ 4096
-  pub count-to : h .count ≤ 4096
-  pub steps-to : h .steps ≤ 10000
+  pub gx-to : natAbs (h .gx) ≤ mostGravity
+  pub gy-to : natAbs (h .gy) ≤ mostGravity
+  pub count-to : h .count ≤ mostRecords
+  pub steps-to : h .steps ≤ mostSteps
 
 module _ (h : Header) where
   abbrev gravity : Bool
@@ -33,15 +33,15 @@ module _ (h : Header) where
   valid rest e =
       let s = passed (not (validSize (h .nx) (h .ny))) 2 0 _ e in
       let g = passed (not gravity) 10 0 _ (s .1) in
-      let c = passed (ltb 4096 (h .count)) 3 0 _ (g .1) in
-      let t = passed (ltb 10000 (h .steps)) 17 0 _ (c .1) in
-      let w = two-within 4096 (h .gx) (h .gy) (not-false gravity (g .0)) in (
+      let c = passed (ltb mostRecords (h .count)) 3 0 _ (g .1) in
+      let t = passed (ltb mostSteps (h .steps)) 17 0 _ (c .1) in
+      let w = two-within mostGravity (h .gx) (h .gy) (not-false gravity (g .0)) in (
         record {
           size = not-false (validSize (h .nx) (h .ny)) (s .0);
           gx-to = w .0;
           gy-to = w .1;
-          count-to = ltb-false 4096 (h .count) (c .0);
-          steps-to = ltb-false 10000 (h .steps) (t .0);
+          count-to = ltb-false mostRecords (h .count) (c .0);
+          steps-to = ltb-false mostSteps (h .steps) (t .0);
         },
         t .1,
       )
@@ -49,14 +49,14 @@ module _ (h : Header) where
   pub passes : {A : Type 0} (rest : Answer A) → Valid h → checkedHeader h rest ≡ rest
   unfolding checkedHeader
   passes rest v =
-      four (validSize (h .nx) (h .ny)) gravity (ltb 4096 (h .count)) (ltb 10000 (h .steps)) (v .size) (two-within-back 4096 (h .gx) (h .gy) (v .gx-to) (v .gy-to)) (le-ltb 4096 (h .count) (v .count-to)) (le-ltb 10000 (h .steps) (v .steps-to))
+      four (validSize (h .nx) (h .ny)) gravity (ltb mostRecords (h .count)) (ltb mostSteps (h .steps)) (v .size) (two-within-back mostGravity (h .gx) (h .gy) (v .gx-to) (v .gy-to)) (le-ltb mostRecords (h .count) (v .count-to)) (le-ltb mostSteps (h .steps) (v .steps-to))
     where
       four : (s g c t : Bool) → s ≡ true → g ≡ true → c ≡ false → t ≡ false → refuseIf (not s) 2 0 (refuseIf (not g) 10 0 (refuseIf c 3 0 (refuseIf t 17 0 rest))) ≡ rest
       four s g c t p q r u = rw (p, q, r, u)
 
   pub refuses : {A B : Type 0} (a : A) (rest : Answer B) {n k : ℕ} → checkedHeader h (result a) ≡ refused n k → checkedHeader h rest ≡ refused n k
   unfolding checkedHeader
-  refuses a rest e = four (not (validSize (h .nx) (h .ny))) (not gravity) (ltb 4096 (h .count)) (ltb 10000 (h .steps)) e
+  refuses a rest e = four (not (validSize (h .nx) (h .ny))) (not gravity) (ltb mostRecords (h .count)) (ltb mostSteps (h .steps)) e
     where
       four : (s g c t : Bool) {n k : ℕ} → refuseIf s 2 0 (refuseIf g 10 0 (refuseIf c 3 0 (refuseIf t 17 0 (result a)))) ≡ refused n k → refuseIf s 2 0 (refuseIf g 10 0 (refuseIf c 3 0 (refuseIf t 17 0 rest))) ≡ refused n k
       four true g c t e = same-refusal e

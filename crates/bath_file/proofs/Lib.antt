@@ -1,4 +1,3 @@
-pub mod Fields
 pub mod Bytes
 pub mod Checks
 pub mod Answers

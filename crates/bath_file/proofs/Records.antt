@@ -1,37 +1,38 @@
 -- An accepted file is its header, and then the records of a set that breaks no limit.
 --     FileHeld, file-held   what an accepted file says: the bytes behind the header are an accepted set, as many records as the header counts
---     file-bytes            such a file is the header's nine bytes, and then the records of the set's particles
+--     file-bytes            such a file is the header's bytes, and then the records of the set's particles
 --     file-accepted         and every such file is accepted
 -- Assumes nothing.
 use Prim.Native.Nat.{ℕ, zero, suc, _+_, _*_, _/_, _%_, _≤_, _<_}
 use native.Mathlib.Nat.{zero-add}
 use native.Mathlib.Omega.{arith}
 use mathlib.Core.Path.{_≡_, refl, sym, ap, ap₂, subst, _∙_}
-use mathlib.Core.Bool.{true, not}
+use mathlib.Core.Bool.{true}
 use mathlib.Core.List.{List, _∷_, _++_}
-use borrow.Author.Tests.{eq-eqb, eqb-true, le-leb, not-false}
-use lib.Dec.{eqb}
+use borrow.Author.Tests.{eq-eqb, le-leb}
 use lib.ListN.{length, getD, take, drop, length-append, length-drop, take-append-drop}
 use lib.Seq.{drop-drop, drop-at, getD-drop}
 use Rattle.refusal.specs.Refused.{result, andThen}
-use Rattle.refusal.proofs.Answers.{passed, went-on, same-result}
+use Rattle.refusal.proofs.Answers.{went-on, same-result}
 use Rattle.apic.specs.Limits.{SetLimits}
+use Rattle.limits.specs.Limits.{mostRecords}
 use Rattle.particle.specs.declared.Particle.{Particle}
+use Rattle.particle.specs.Layout.{recordLength}
 use Rattle.particle.specs.Record.{readAnswer}
-use Rattle.particles.specs.Set.{validLength, recordAt, recordCount, recordsOf, admitted, setFrom, setOf, setAnswer}
+use Rattle.particles.specs.Set.{setLength, validLength, recordAt, recordCount, recordsOf, admitted, setFrom, setOf, setAnswer}
 use Rattle.particles.proofs.Checks.{counted, entered, good-entry}
 use Rattle.particles.proofs.Accepted.{accepted-records, limits-accepted, records-length}
 use Rattle.bath_file.specs.declared.Header.{Header}
 use Rattle.bath_file.specs.Layout.{headerLength}
 use Rattle.bath_file.specs.File.{headerOf, headerAnswer, recordsAnswer, fileAnswer}
 use Rattle.bath_file.proofs.Checks.{Valid}
-use Rattle.bath_file.proofs.Answers.{header-held, right-length}
+use Rattle.bath_file.proofs.Answers.{header-held, right-records, records-passed}
 use Rattle.bath_file.proofs.RoundTrip.{header-length, header-of-read, read-of-header}
 
 -- a set that starts at a byte is the set of the bytes from there on
 module _ (nx ny start : ℕ) (bytes : List ℕ) where
   same-record : (k : ℕ) → recordAt start bytes k ≡ recordAt 0 (drop start bytes) k
-  same-record k = ap (take 14) (sym (drop-drop (0 + 14 * k) start bytes ∙ ap (λ n. drop n bytes) (ap (λ n. start + n) (zero-add (14 * k)))))
+  same-record k = ap (take recordLength) (sym (drop-drop (0 + recordLength * k) start bytes ∙ ap (λ n. drop n bytes) (ap (λ n. start + n) (zero-add (recordLength * k)))))
 
   moved : (left k least mass : ℕ) → setFrom nx ny start bytes left k least mass ≡ setFrom nx ny 0 (drop start bytes) left k least mass
   unfolding setFrom
@@ -45,14 +46,14 @@ module _ (bytes : List ℕ) (h : Header) where
   behind = drop headerLength bytes
 
   -- the records are as long as the header counts
-  whole : length bytes ≡ 9 + 14 * h .count → length behind ≡ 14 * h .count
+  whole : length bytes ≡ headerLength + recordLength * h .count → length behind ≡ recordLength * h .count
   whole e = length-drop headerLength bytes ∙ (omega arith)
 
-  counts : length behind ≡ 14 * h .count → recordCount behind ≡ h .count
+  counts : length behind ≡ recordLength * h .count → recordCount behind ≡ h .count
   counts e = omega arith
 
-  valid-length : length behind ≡ 14 * h .count → h .count ≤ 4096 → validLength (length behind) ≡ true
-  valid-length e n = rw (eq-eqb (length behind % 14) 0 (omega arith), le-leb (length behind) 57344 (omega arith))
+  valid-length : length behind ≡ recordLength * h .count → h .count ≤ mostRecords → validLength (length behind) ≡ true
+  valid-length e n = rw (eq-eqb (length behind % recordLength) 0 (omega arith), le-leb (length behind) setLength (omega arith))
 
   pub record FileHeld : Type 0 where
     pub particles : List Particle
@@ -62,12 +63,11 @@ module _ (bytes : List ℕ) (h : Header) where
 
   -- what an accepted set behind this header says
   held : headerAnswer bytes ≡ result h → recordsAnswer h bytes ≡ result h → FileHeld
-  unfolding recordsAnswer
   held read rest =
-      let n = passed (not (eqb (length bytes) (9 + 14 * h .count))) 1 0 _ rest in
+      let n = records-passed h bytes rest in
       let w = went-on (setOf (h .nx) (h .ny) headerLength bytes (h .count)) (λ _. result h) (n .1) in
       let v = header-held bytes read .valid in
-      let l = whole (eqb-true (length bytes) (9 + 14 * h .count) (not-false _ (n .0))) in
+      let l = whole (n .0) in
       record {
         particles = w .0;
         header = read;
@@ -80,7 +80,6 @@ module _ (bytes : List ℕ) (h : Header) where
       }
 
   pub file-held : fileAnswer bytes ≡ result h → FileHeld
-  unfolding recordsAnswer
   file-held e =
       let w = went-on (headerAnswer bytes) (λ g. recordsAnswer g bytes) e in
       let same : w .0 ≡ h = answers (w .0) (w .2) in
@@ -88,7 +87,7 @@ module _ (bytes : List ℕ) (h : Header) where
     where
       answers : (g : Header) → recordsAnswer g bytes ≡ result h → g ≡ h
       answers g r =
-          let n = passed (not (eqb (length bytes) (9 + 14 * g .count))) 1 0 _ r in
+          let n = records-passed g bytes r in
           same-result (went-on (setOf (g .nx) (g .ny) headerLength bytes (g .count)) (λ _. result g) (n .1) .2)
 
   pub file-bytes : (f : FileHeld) → ((i : ℕ) → getD bytes i 0 < 256) → bytes ≡ headerOf h ++ recordsOf (f .particles)
@@ -103,14 +102,14 @@ file-accepted h ps v l n =
     let all = records-length ps in
     let set = entered (h .nx) (h .ny) (recordsOf ps) (limits-accepted (h .nx) (h .ny) ps l) .set in
     ap (λ a. andThen a (λ g. recordsAnswer g bytes)) (read-of-header h v (recordsOf ps))
-    ∙ right-length h bytes (length-append (headerOf h) (recordsOf ps) ∙ sum (length (headerOf h)) (length (recordsOf ps)) (length ps) (header-length h) all n)
+    ∙ right-records h bytes (length-append (headerOf h) (recordsOf ps) ∙ sum (length (headerOf h)) (length (recordsOf ps)) (length ps) (header-length h) all n)
     ∙ ap (λ a. andThen a (λ _. result h))
     (moved (h .nx) (h .ny) headerLength bytes (h .count) 0 0 0
     ∙ ap₂ (setOf (h .nx) (h .ny) 0) behind (n ∙ sym (quotient (length (recordsOf ps)) (length ps) all))
     ∙ set)
   where
-    sum : (a b m : ℕ) → a ≡ 9 → b ≡ 14 * m → h .count ≡ m → a + b ≡ 9 + 14 * h .count
+    sum : (a b m : ℕ) → a ≡ headerLength → b ≡ recordLength * m → h .count ≡ m → a + b ≡ headerLength + recordLength * h .count
     sum a b m p q r = omega arith
 
-    quotient : (b m : ℕ) → b ≡ 14 * m → b / 14 ≡ m
+    quotient : (b m : ℕ) → b ≡ recordLength * m → b / recordLength ≡ m
     quotient b m e = omega arith

@@ -1,14 +1,14 @@
 -- Document 01, "Read a file": its answer for any bytes; and writing a header: its answer, and the buffer that it leaves.
 -- Assumes nothing.
 use Prim.Native.Nat.{ℕ, _+_, _*_}
-use mathlib.Core.Bool.{Bool, not, _&&_}
+use mathlib.Core.Bool.{not, _&&_}
 use mathlib.Core.List.{List}
 use lib.Dec.{ltb, eqb}
-use lib.IntN.{ℤ, pos, negℤ, natAbs}
+use lib.IntN.{ℤ, pos, natAbs}
 use lib.ListN.{length, take}
 use Rattle.refusal.specs.Refused.{Answer, result, refusedBy, refuseIf, andThen, keptUnless}
+use Rattle.limits.specs.Limits.{mostRecords, mostSteps, validGravity}
 use Rattle.particle.specs.Layout.{recordLength}
-use Rattle.particle.specs.Record.{between}
 use Rattle.particles.specs.Set.{validSize, setOf}
 use Rattle.bath_file.specs.declared.Header.{Header}
 use Rattle.bath_file.specs.declared.FileRead.{FileRead}
@@ -17,7 +17,7 @@ use Rattle.bath_file.specs.declared.HeaderWritten.{HeaderWritten}
 use Rattle.bath_file.specs.declared.HeaderWritten.the-variants as write
 use Rattle.bath_file.specs.Layout.{Name, nx, ny, gx, gy, count, steps, spare, headerLength, held, packed}
 
--- the header that nine bytes hold
+-- the header that bytes of its length hold
 unfoldable pub headerIn : List ℕ → Header
 headerIn bytes =
     record {
@@ -38,28 +38,24 @@ valueIn h count = pos (h .count)
 valueIn h steps = pos (h .steps)
 valueIn h spare = pos 0
 
--- the nine bytes that hold a header
+-- the bytes that hold a header
 unfoldable pub headerOf : Header → List ℕ
 headerOf h = packed (valueIn h)
 
 -- ---- the limits of "Records"
 
--- −4096 to 4096
-abbrev pub validGravity : ℤ → Bool
-validGravity g = between (negℤ (pos 4096)) (pos 4096) g
-
--- 2 Nx or Ny out of range; 10 gravity out of range; 3 count above 4096; 17 steps above 10,000; and then the rest of a list
+-- 2 Nx or Ny out of range; 10 gravity out of range; 3 too many records; 17 too many steps; and then the rest of a list
 unfoldable pub checkedHeader : {A : Type 0} → Header → Answer A → Answer A
 checkedHeader h rest =
     refuseIf (not (validSize (h .nx) (h .ny))) 2 0
     (refuseIf (not (validGravity (h .gx) && validGravity (h .gy))) 10 0
-    (refuseIf (ltb 4096 (h .count)) 3 0
-    (refuseIf (ltb 10000 (h .steps)) 17 0
+    (refuseIf (ltb mostRecords (h .count)) 3 0
+    (refuseIf (ltb mostSteps (h .steps)) 17 0
     rest)))
 
 -- ---- "Read a file"
 
--- 1 shorter than 9; 2; 10; 3; 17; 16 spare bits not zero
+-- 1 shorter than a header; 2; 10; 3; 17; 16 spare bits not zero
 unfoldable pub headerAnswer : List ℕ → Answer Header
 headerAnswer bytes =
     let first = take headerLength bytes in
@@ -68,7 +64,7 @@ headerAnswer bytes =
     (refuseIf (not (eqb (natAbs (held spare first)) 0)) 16 0
     (result (headerIn first))))
 
--- 1 length not 9 + 14·count; then the set, whose records lie from byte 9 on
+-- 1 length not that of the header and of as many records as it counts; then the set, whose records lie behind the header
 unfoldable pub recordsAnswer : Header → List ℕ → Answer Header
 recordsAnswer h bytes =
     refuseIf (not (eqb (length bytes) (headerLength + recordLength * h .count))) 1 0
@@ -84,7 +80,7 @@ toldRead (read.Refused e) = refusedBy e
 
 -- ---- writing a header
 
--- 1 length not 9; 2; 10; 3; 17
+-- 1 wrong length; 2; 10; 3; 17
 unfoldable pub writeAnswer : Header → List ℕ → Answer Unit
 writeAnswer h bytes = refuseIf (not (eqb (length bytes) headerLength)) 1 0 (checkedHeader h (result tt))
 

@@ -1,16 +1,14 @@
 -- The layout of a bath file's header: one table of its fields, in document 01's order ("Records"), most significant bit first.
---     layout        the table
---     Name          the fields' names
---     held          the integer that the field of a name holds in a header
---     packed        the header whose fields hold these integers
+--     Name            the fields' names
+--     headerLength    the length of a header in bytes
+--     layout          the table
+--     held            the integer that the field of a name holds in a header
+--     packed          the header whose fields hold these integers
 -- Assumes nothing.
 use Prim.Native.Nat.{ℕ}
-use mathlib.Core.Bool.{Bool}
-use mathlib.Core.List.{List, [], _∷_, map}
-use lib.Dec.{eqb}
+use mathlib.Core.List.{List, [], _∷_}
 use lib.IntN.{ℤ}
-use lib.ListN.{replicate}
-use Rattle.particle.specs.Bits.{Field, field, unsigned, signed, cut, join, encoded, widths, valueOf}
+use Rattle.bits.specs.Layout.{Layout, field, unsigned, signed, heldBy, packedBy}
 
 pub data Name : Type 0 where
   nx : Name
@@ -21,25 +19,6 @@ pub data Name : Type 0 where
   steps : Name
   spare : Name
 
-abbrev pub layout : List (Field Name)
-layout =
-    field nx 6 unsigned
-    ∷ field ny 6 unsigned
-    ∷ field gx 14 signed
-    ∷ field gy 14 signed
-    ∷ field count 13 unsigned
-    ∷ field steps 14 unsigned
-    ∷ field spare 5 unsigned
-    ∷ []
-
--- the length of a header in bytes
-abbrev pub headerLength : ℕ
-headerLength = 9
-
-abbrev pub byteWidths : List ℕ
-byteWidths = replicate headerLength 8
-
--- names are told apart by a number each
 abbrev pub code : Name → ℕ
 code nx = 0
 code ny = 1
@@ -49,13 +28,27 @@ code count = 4
 code steps = 5
 code spare = 6
 
-abbrev pub is : Name → Name → Bool
-is a b = eqb (code a) (code b)
+abbrev pub headerLength : ℕ
+headerLength = 9
 
--- the bytes of a header make one number, the first byte the most significant, and the fields are its parts
+abbrev pub layout : Layout Name
+layout =
+    record {
+      fields =
+          field nx 6 unsigned
+          ∷ field ny 6 unsigned
+          ∷ field gx 14 signed
+          ∷ field gy 14 signed
+          ∷ field count 13 unsigned
+          ∷ field steps 14 unsigned
+          ∷ field spare 5 unsigned
+          ∷ [];
+      size = headerLength;
+      code = code;
+    }
+
 abbrev pub held : Name → List ℕ → ℤ
-held a bytes = valueOf (is a) layout (cut (widths layout) (join byteWidths bytes))
+held a bytes = heldBy layout a bytes
 
--- the integers, by name, as the parts of one number, and that number's bytes
 abbrev pub packed : (Name → ℤ) → List ℕ
-packed value = cut byteWidths (join (widths layout) (map (λ f. encoded (f .bits) (value (f .name))) layout))
+packed value = packedBy layout value

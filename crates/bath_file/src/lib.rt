@@ -1,7 +1,9 @@
-// A bath file: a header of 9 bytes, then particle records. It is read and checked, and a header is written.
+// A bath file: a header, then particle records. It is read and checked, and a header is written.
+use limits::LEAST_GRAVITY;
+use limits::MOST_GRAVITY;
+use limits::MOST_RECORDS;
+use limits::MOST_STEPS;
 use particle::RECORD_LENGTH;
-use particle::bits;
-use particle::limits;
 use particles::Checked;
 use refusal::Refusal;
 ghost use mathlib.Core.Path.{_≡_};
@@ -9,23 +11,13 @@ ghost use mathlib.Core.List.{[], _∷_};
 ghost use lib.IntN.{natAbs};
 ghost use lib.ListN.{length};
 ghost use Rattle.refusal.specs.Refused.{result};
-ghost use Rattle.particle.specs.Bits.{cut, join, widths};
-ghost use Rattle.particle.specs.Internal.{Below};
-ghost use Rattle.bath_file.specs.Layout.{layout, byteWidths, headerLength, spare, held};
+ghost use Rattle.bits.specs.Internal.{Below};
+ghost use Rattle.bits.specs.Layout.{widths, filled};
+ghost use Rattle.bath_file.specs.Layout.{layout, headerLength, spare, held};
 ghost use Rattle.bath_file.specs.File.{headerIn, headerOf, checkedHeader, headerAnswer, recordsAnswer, fileAnswer, writeAnswer, written, toldRead, toldWritten};
 
 // The length of a header in bytes.
 pub const HEADER_LENGTH: usize = 9;
-
-// The largest number of records in a file.
-pub const MOST_RECORDS: usize = 4096;
-
-// The largest number of steps.
-pub const MOST_STEPS: usize = 10000;
-
-const LEAST_GRAVITY: i16 = -4096;
-
-const MOST_GRAVITY: i16 = 4096;
 
 // The grid's size in nodes, gravity in 256ths of a velocity unit per step, the number of records and the number of steps.
 pub struct Header {
@@ -47,7 +39,7 @@ pub enum HeaderWritten {
     Refused(Refusal),
 }
 
-// The header that nine bytes hold, from a word of eight bytes and one byte more: the low bits of the steps are in that one.
+// The header that bytes of its length hold, from a word of eight bytes and one byte more: the low bits of the steps are in that one.
 // `read_header` calls it with as many.
 fn unpack(bytes: &[u8]) -> Header
     requires { ⌜ length (now bytes) ≡ headerLength ⌝ }
@@ -65,7 +57,7 @@ fn unpack(bytes: &[u8]) -> Header
     }
 }
 
-// The spare bits of nine bytes, as a number. `read_header` calls it with as many.
+// The spare bits of a header, as a number. `read_header` calls it with as many.
 fn spare_bits(bytes: &[u8]) -> u16
     requires { ⌜ length (now bytes) ≡ headerLength ⌝ }
     ensures { λ r. ⌜ r ≡ natAbs (held spare (now (bytes .entry))) ⌝ }
@@ -126,7 +118,7 @@ fn check_records(h: Header, bytes: &[u8]) -> FileRead
     }
 }
 
-// Read a file: any bytes. The result is the header's values, and the records lie from byte 9 on.
+// Read a file: any bytes. The result is the header's values, and the records lie behind the header.
 pub fn read_file(bytes: &[u8]) -> FileRead
     ensures { λ r. ⌜ toldRead r ≡ fileAnswer (now (bytes .entry)) ⌝ }
 {
@@ -140,7 +132,7 @@ pub fn read_file(bytes: &[u8]) -> FileRead
 // calls it with parts that the fields hold.
 fn put(nx: u16, ny: u16, gx: u16, gy: u16, count: u16, steps: u16, bytes: &mut [u8])
     requires { ⌜ Below (widths layout) (nx ∷ ny ∷ gx ∷ gy ∷ count ∷ steps ∷ 0 ∷ []) × (length (now bytes) ≡ headerLength) ⌝ }
-    ensures { λ _. ⌜ now (bytes .exit) ≡ cut byteWidths (join (widths layout) (nx ∷ ny ∷ gx ∷ gy ∷ count ∷ steps ∷ 0 ∷ [])) ⌝ }
+    ensures { λ _. ⌜ now (bytes .exit) ≡ filled layout (nx ∷ ny ∷ gx ∷ gy ∷ count ∷ steps ∷ 0 ∷ []) ⌝ }
 {
     let first = nx as u64 * 288230376151711744
         + ny as u64 * 4503599627370496
@@ -152,7 +144,7 @@ fn put(nx: u16, ny: u16, gx: u16, gy: u16, count: u16, steps: u16, bytes: &mut [
     bytes[8] = (steps % 8 * 32) as u8;
 }
 
-// Writes the nine bytes that hold a header. `write_header` calls it with a header that it accepts.
+// Writes the bytes that hold a header. `write_header` calls it with a header that it accepts.
 fn pack(h: Header, bytes: &mut [u8])
     requires { ⌜ (checkedHeader h (result h) ≡ result h) × (length (now bytes) ≡ headerLength) ⌝ }
     ensures { λ _. ⌜ now (bytes .exit) ≡ headerOf h ⌝ }

@@ -9,20 +9,20 @@ use native.Mathlib.Omega.{arith}
 use borrow.Author.Tests.{le-ltb}
 use Rattle.refusal.specs.Refused.{Answer, result, refused, refuseIf, either}
 use Rattle.particle.specs.declared.Particle.{Particle}
-use Rattle.apic.specs.Step.{alongX, alongY}
+use Rattle.apic.specs.Step.{alongX, alongY, Grids}
 use Rattle.apic.specs.Limits.{SetLimits}
 use Rattle.particles.specs.Set.{recordsOf}
 use Rattle.particles.proofs.Accepted.{limits-accepted}
 use Rattle.particles.proofs.Checks.{entered}
-use Rattle.update.proofs.Walk.{both-within}
-use Rattle.simulation.specs.declared.Settings.{Settings}
-use Rattle.simulation.specs.Step.{Grids, After, checkEntry, setIn, stepOf, nodesOf, stepEntry, stepFrom, stepAfter}
+use Rattle.entry.specs.Entry.{beginAnswer, entryAnswer}
+use Rattle.entry.proofs.Entry.{three-long, enters}
+use Rattle.settings.specs.declared.Settings.{Settings}
+use Rattle.simulation.specs.Step.{seen, After, buffersOf, stepOf, nodesOf, stepEntry, stepFrom, stepAfter}
 use Rattle.simulation.specs.Run.{Completion, afterOne, runFrom, runEntry, runAfter}
-use Rattle.simulation.specs.Internal.{seen}
 use Rattle.simulation.proofs.Refusals.{grid-limits, velocity-limits}
 use Rattle.simulation.proofs.Steps.{step-result, completed, limits-after}
 use Rattle.composition.specs.Repeated.{thenRun, RunIsSteps}
-use Rattle.composition.proofs.Entry.{whole-grids, step-from, known}
+use Rattle.composition.proofs.Entry.{step-from, known}
 
 -- stopped before its first step
 abbrev stopped : ℕ → ℕ → List ℕ → Grids → After Completion
@@ -30,8 +30,8 @@ stopped k p records grids = seen (record { completed = 0; stop = refused k p }) 
 
 module _ (s : Settings) (records : List ℕ) (grids : Grids) where
   run-entry : (n : ℕ) → n ≤ 10000 → runEntry s n records grids ≡ stepEntry s records grids
-  unfolding runEntry stepEntry
-  run-entry n h = ap (λ b. checkEntry s records grids (refuseIf b 17 0 (setIn s records))) (le-ltb 10000 n h)
+  unfolding runEntry stepEntry entryAnswer beginAnswer
+  run-entry n h = rw (le-ltb 10000 n h)
 
   run-from : (n : ℕ) → n ≤ 10000 → {a : Answer (List Particle)} → stepEntry s records grids ≡ a → runAfter s n records grids ≡ either a (λ ps. runFrom s n records ps grids) (λ k p. stopped k p records grids)
   unfolding runAfter
@@ -45,12 +45,17 @@ module _ (s : Settings) (records : List ℕ) (grids : Grids) where
     again : stepEntry s (recordsOf qs) (nodesOf s ps) ≡ result qs
     unfolding stepEntry
     again =
-        let w = entered (s .nx) (s .ny) (recordsOf qs) (limits-accepted (s .nx) (s .ny) qs after) in
         let k = known s records grids e in
         let g = grid-limits s ps (k .limits) (k .light) in
         let v = velocity-limits s ps (k .limits) (k .light) in
-        rw (w .size, w .whole, whole-grids (g .mass-length) (v alongX .count) (v alongY .count), both-within 4096 (s .gx) (s .gy) (g .gravity-x) (g .gravity-y))
-        (w .set)
+        enters s (buffersOf (nodesOf s ps)) 0 (recordsOf qs)
+        (record {
+          set = limits-accepted (s .nx) (s .ny) qs after;
+          long = three-long (record { mass-is = g .mass-length; x-is = v alongX .count; y-is = v alongY .count });
+          gravity-x = k .light alongX;
+          gravity-y = k .light alongY;
+          few = omega arith;
+        })
 
   -- by what the first step answers
   module _ (n : ℕ) (few : n < 10000) where

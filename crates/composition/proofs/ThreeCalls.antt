@@ -9,25 +9,27 @@ use mathlib.Core.Bool.{Bool, true, not, _&&_}
 use mathlib.Core.List.{List}
 use Prim.Native.Nat.{ℕ, _*_, _<_, _≤_}
 use native.Mathlib.Nat.{zero-add}
-use lib.Dec.{eqb}
+use native.Mathlib.Omega.{arith}
 use lib.ListN.{length, getD}
 use lib.IntN.{ℤ, pos, natAbs}
 use borrow.Author.Tests.{eq-eqb}
-use Rattle.refusal.specs.Refused.{Answer, result, refused, refuseIf, andThen, either, keptUnless}
+use Rattle.refusal.specs.Refused.{Answer, result, refused, refuseIf, andThen, either, done, toldOf}
 use Rattle.particle.specs.declared.Particle.{Particle}
-use Rattle.apic.specs.Step.{Axis, alongX, alongY}
+use Rattle.apic.specs.Step.{Axis, alongX, alongY, Grids}
 use Rattle.particles.specs.Set.{recordsOf}
-use Rattle.particles.proofs.Checks.{entered}
-use Rattle.unpacked.proofs.Laws.{each-at}
+use Rattle.arith.specs.Lists.{each-at}
 use Rattle.gather_core.specs.Gather.{gathered, NodeVelocities}
-use Rattle.update.specs.Checks.{done}
-use Rattle.update.specs.Update.{velocities, updateAnswer}
-use Rattle.update.proofs.Walk.{both-within, each-pass}
-use Rattle.transfer.specs.Transfer.{entryAnswer, scatterAnswer, velocityCheck, velocityChecks, checkedSet, moveAnswer, gatherAnswer, Fills, Moves}
-use Rattle.transfer.proofs.Entry.{by-set}
-use Rattle.simulation.specs.declared.Settings.{Settings}
-use Rattle.simulation.specs.Step.{Grids, masses, momenta, updatedVelocities, stepped, stepOf, nodesOf, stepEntry, stepFrom, stepAfter}
-use Rattle.simulation.specs.Internal.{seen}
+use Rattle.update.specs.Update.{velocities, bothAxes, updateAnswer}
+use Rattle.settings.specs.Settings.{still}
+use Rattle.entry.specs.declared.Buffers.{Buffers}
+use Rattle.entry.specs.declared.Buffers.the-variants.{Two}
+use Rattle.entry.specs.Checks.{areLong}
+use Rattle.entry.proofs.Entry.{both-within, enters}
+use Rattle.update.proofs.Walk.{each-pass}
+use Rattle.entry.specs.Entry.{entryAnswer}
+use Rattle.transfer.specs.Transfer.{scatterAnswer, velocityCheck, velocityChecks, checkedSet, moveAnswer, gatherAnswer, Fills, Moves}
+use Rattle.settings.specs.declared.Settings.{Settings}
+use Rattle.simulation.specs.Step.{seen, masses, momenta, updatedVelocities, stepped, stepOf, nodesOf, stepEntry, stepFrom, stepAfter}
 use Rattle.simulation.proofs.Refusals as refusals
 use Rattle.simulation.proofs.Refusals.{velocity-limits}
 use Rattle.composition.specs.ThreeCalls.{ThreeCalls, IsStep, StepIsThreeCalls, ThreeCallsExist}
@@ -52,17 +54,18 @@ module _ (s : Settings) (records : List ℕ) (lent : Grids) {ps : List Particle}
   abbrev k : Known s records lent ps
   k = known s records lent e
 
-  entry-is : (lengths : Bool) → lengths ≡ true → entryAnswer (s .nx) (s .ny) records lengths ≡ result ps
-  entry-is lengths h =
-      let w = entered (s .nx) (s .ny) records (k .set) in
-      by-set (s .nx) (s .ny) records lengths (w .size) (w .whole) h ∙ w .set
+  -- the same set, with buffers of the grid's size and no gravity
+  entry-is : (buffers : Buffers) → areLong (s .nx * s .ny) buffers ≡ true → entryAnswer (still (s .nx) (s .ny)) buffers 0 records ≡ result ps
+  entry-is buffers h =
+      enters (still (s .nx) (s .ny)) buffers 0 records
+      (record { set = k .accepted .set; long = h; gravity-x = omega arith; gravity-y = omega arith; few = omega arith })
 
   -- a step's velocities on an axis
   abbrev u : Axis → List ℤ
   u a = updatedVelocities s a ps
 
   scatter-is : scatterAnswer (s .nx) (s .ny) records (length (lent .mass)) (length (lent .x)) (length (lent .y)) ≡ result ps
-  scatter-is = entry-is _ (k .grids)
+  scatter-is = entry-is _ (k .accepted .long)
 
   update-is : updateAnswer (s .nx) (s .ny) (s .gx) (s .gy) (masses s ps) (momenta s alongX ps) (momenta s alongY ps) ≡ done
   update-is = refusals.update-done s ps (k .limits) (k .light)
@@ -72,13 +75,13 @@ module _ (s : Settings) (records : List ℕ) (lent : Grids) {ps : List Particle}
   gather-is =
       let v = velocity-limits s ps (k .limits) (k .light) in
       ap (λ a. andThen (andThen a (λ qs. andThen (velocityChecks (s .nx * s .ny) (u alongX) (u alongY)) (λ _. result qs))) (λ qs. moveAnswer (s .nx) (s .ny) (u alongX) (u alongY) qs))
-      (entry-is (eqb (length (u alongX)) (s .nx * s .ny) && eqb (length (u alongY)) (s .nx * s .ny)) (ap₂ _&&_ (eq-eqb (length (u alongX)) (s .nx * s .ny) (v alongX .count)) (eq-eqb (length (u alongY)) (s .nx * s .ny) (v alongY .count))))
+      (entry-is (Two (length (u alongX)) (length (u alongY))) (ap₂ _&&_ (eq-eqb (length (u alongX)) (s .nx * s .ny) (v alongX .count)) (eq-eqb (length (u alongY)) (s .nx * s .ny) (v alongY .count))))
       ∙ ap (λ a. andThen (andThen a (λ _. result ps)) (λ qs. moveAnswer (s .nx) (s .ny) (u alongX) (u alongY) qs)) (velocities-pass (v alongX) (v alongY))
 
   -- what is told and left of the moved particles
   left : (grids : Grids) (a : Answer (List Particle)) {told : Answer Unit} {records′ : List ℕ} → Moves a records told records′ → either a (λ qs. seen done (recordsOf qs) grids) (λ n k. seen (refused n k) records grids) ≡ seen told records′ grids
-  left grids (result qs) m = ap₂ (λ t r. seen t r grids) (sym (m .answer)) (sym (m .records-are))
-  left grids (refused n k) m = ap₂ (λ t r. seen t r grids) (sym (m .answer)) (sym (m .records-are))
+  left grids (result qs) m = ap₂ (λ t r. seen t r grids) (sym (m .answer)) (sym (m .left-is))
+  left grids (refused n k) m = ap₂ (λ t r. seen t r grids) (sym (m .answer)) (sym (m .left-is))
 
   module _ (c : ThreeCalls s records lent) where
     filled : Fills (s .nx) (s .ny) (result ps) (lent .mass) (lent .x) (lent .y) (c .scattered) (c .mass) (c .px) (c .py)
@@ -86,31 +89,34 @@ module _ (s : Settings) (records : List ℕ) (lent : Grids) {ps : List Particle}
 
     mass-is : c .mass ≡ masses s ps
     unfolding masses
-    mass-is = filled .mass-is
+    mass-is = ap (λ g. g .mass) (filled .left-is)
 
     px-is : c .px ≡ momenta s alongX ps
     unfolding momenta
-    px-is = filled .px-is
+    px-is = ap (λ g. g .x) (filled .left-is)
 
     py-is : c .py ≡ momenta s alongY ps
     unfolding momenta
-    py-is = filled .py-is
+    py-is = ap (λ g. g .y) (filled .left-is)
 
     accepted : updateAnswer (s .nx) (s .ny) (s .gx) (s .gy) (c .mass) (c .px) (c .py) ≡ done
     accepted = rw (mass-is, px-is, py-is) update-is
 
+    updated : bothAxes (c .ux) (c .uy) ≡ bothAxes (velocities (s .nx * s .ny) (s .gx) (c .mass) (c .px)) (velocities (s .nx * s .ny) (s .gy) (c .mass) (c .py))
+    updated =
+        c .update .left-is
+        ∙ ap (λ a. either a (λ _. bothAxes (velocities (s .nx * s .ny) (s .gx) (c .mass) (c .px)) (velocities (s .nx * s .ny) (s .gy) (c .mass) (c .py))) (λ n k. bothAxes (c .px) (c .py))) accepted
+
     ux-is : c .ux ≡ u alongX
     unfolding updatedVelocities
     ux-is =
-        c .update .px-is
-        ∙ ap (λ a. keptUnless a (velocities (s .nx * s .ny) (s .gx) (c .mass) (c .px)) (c .px)) accepted
+        ap (λ g. g .x) updated
         ∙ ap₂ (velocities (s .nx * s .ny) (s .gx)) mass-is px-is
 
     uy-is : c .uy ≡ u alongY
     unfolding updatedVelocities
     uy-is =
-        c .update .py-is
-        ∙ ap (λ a. keptUnless a (velocities (s .nx * s .ny) (s .gy) (c .mass) (c .py)) (c .py)) accepted
+        ap (λ g. g .y) updated
         ∙ ap₂ (velocities (s .nx * s .ny) (s .gy)) mass-is py-is
 
     moves : Moves (stepOf s ps) records (c .gathered) (c .moved)
@@ -129,7 +135,7 @@ module _ (s : Settings) (records : List ℕ) (lent : Grids) {ps : List Particle}
         ∙ ap (seen (c .gathered) (c .moved)) grids-are
 
     is-step : IsStep s records lent c
-    is-step = record { scatter-done = filled .answer; update-done = c .update .answer ∙ accepted; leaves = leaves }
+    is-step = record { scatter-done = filled .answer; update-done = c .update .answer ∙ ap toldOf accepted; leaves = leaves }
 
 pub step-is-three-calls : StepIsThreeCalls
 step-is-three-calls s records lent ps e c = is-step s records lent e c
@@ -142,12 +148,12 @@ three-calls-exist s records lent =
       mass = _;
       px = _;
       py = _;
-      scatter = record { answer = refl; mass-is = refl; px-is = refl; py-is = refl };
+      scatter = record { answer = refl; left-is = refl };
       updated = _;
       ux = _;
       uy = _;
-      update = record { answer = refl; px-is = refl; py-is = refl };
+      update = record { answer = refl; left-is = refl };
       gathered = _;
       moved = _;
-      gather = record { answer = refl; records-are = refl };
+      gather = record { answer = refl; left-is = refl };
     }

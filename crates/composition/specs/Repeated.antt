@@ -4,8 +4,9 @@ use mathlib.Core.Path.{_≡_}
 use mathlib.Core.List.{List}
 use Prim.Native.Nat.{ℕ, suc, _<_}
 use Rattle.refusal.specs.Refused.{Answer, refused, either}
-use Rattle.simulation.specs.declared.Settings.{Settings}
-use Rattle.simulation.specs.Step.{Grids, After, stepAfter}
+use Rattle.settings.specs.declared.Settings.{Settings}
+use Rattle.apic.specs.Step.{Grids}
+use Rattle.simulation.specs.Step.{After, stepAfter}
 use Rattle.simulation.specs.Run.{Completion, afterOne, runAfter}
 
 -- n steps more after a call of step; where it was refused, none is completed and what it left stays

@@ -4,13 +4,13 @@ use mathlib.Core.Path.{_≡_}
 use mathlib.Core.List.{List}
 use Prim.Native.Nat.{ℕ}
 use lib.IntN.{ℤ}
-use Rattle.refusal.specs.Refused.{Answer, result}
+use Rattle.refusal.specs.Refused.{Answer, result, done}
 use Rattle.particle.specs.declared.Particle.{Particle}
-use Rattle.update.specs.Checks.{done}
 use Rattle.update.specs.Update.{UpdateIs}
 use Rattle.transfer.specs.Transfer.{ScatterIs, GatherIs}
-use Rattle.simulation.specs.declared.Settings.{Settings}
-use Rattle.simulation.specs.Step.{Grids, stepEntry, stepAfter}
+use Rattle.settings.specs.declared.Settings.{Settings}
+use Rattle.apic.specs.Step.{Grids}
+use Rattle.simulation.specs.Step.{stepEntry, stepAfter}
 
 -- three calls, what each answers and what it leaves: the records are scattered into the lent grids, the momenta there become
 -- velocities, and the same records gather from those

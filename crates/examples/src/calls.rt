@@ -6,7 +6,7 @@ use crate::answers;
 use crate::records;
 use particle::Particle;
 use particle::RECORD_LENGTH;
-use simulation::Settings;
+use settings::Settings;
 
 // Grids of 4 by 4 nodes.
 pub fn gravity(gx: i64, gy: i64) -> Settings {
@@ -64,7 +64,7 @@ fn left(records: &[u8], mass: &[u64], px: &[i64], py: &[i64]) {
 }
 
 fn step(settings: Settings, records: &mut [u8], mass: &mut [u64], px: &mut [i64], py: &mut [i64]) {
-    answers::stepped(simulation::step(settings, records, mass, px, py));
+    answers::stepped(run::step(settings, records, mass, px, py));
     left(records, mass, px, py);
 }
 
@@ -76,7 +76,7 @@ fn run(
     px: &mut [i64],
     py: &mut [i64],
 ) {
-    answers::ran(simulation::run(settings, steps, records, mass, px, py));
+    answers::ran(run::run(settings, steps, records, mass, px, py));
     left(records, mass, px, py);
 }
 

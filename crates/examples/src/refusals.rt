@@ -1,7 +1,7 @@
 // Calls refused at entry, in the order of the checks; each leaves records and grids as they were.
 use crate::calls;
 use particle::RECORD_LENGTH;
-use simulation::Settings;
+use settings::Settings;
 
 // 2, before 1, 10, 17 and the set.
 fn sizes() {

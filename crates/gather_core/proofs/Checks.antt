@@ -4,7 +4,8 @@
 --     off-low, off-high          a coordinate against the two ends of an axis
 --     check-follow, checks-follow, checks-append     records that pass leave the answer to what follows
 --     refused-at                 a record is refused at its own index
---     Passed, passed             what is known of a record that passes
+--     Checked, checked           what is known of numbers that pass
+--     Passed, passed             and of a record that passes
 -- Assumes nothing.
 use mathlib.Core.Path.{_≡_, refl, sym, ap, subst, _∙_}
 use mathlib.Core.Bool.{Bool, true, false, not, _&&_, _||_}
@@ -25,7 +26,7 @@ use Rattle.refusal.proofs.Answers as answers
 use Rattle.spline.specs.Spline.{onAxis}
 use Rattle.particle.specs.declared.Particle.{Particle}
 use Rattle.apic.specs.Step.{newCoordinate, alongX, alongY}
-use Rattle.gather_core.specs.Gather.{beyond, tooFast, tooSteep, offAxis, offGrid, moveCheck, moveChecks}
+use Rattle.gather_core.specs.Gather.{beyond, tooFast, tooSteep, offAxis, offGrid, firstOf, moveCheck, moveChecks}
 
 pub or-left : {r a : Bool} (b : Bool) → r ≡ a → r ≡ true → true ≡ a || b
 or-left b e t = ap (λ x. x || b) (sym t ∙ e)
@@ -119,36 +120,46 @@ within m z e = ltb-false m (natAbs z) e
 on-axis : (n : ℕ) (z : ℤ) → offAxis n z ≡ false → T (nonNeg z) × T (onAxis n (natAbs z))
 on-axis n z e = and-yes (nonNeg z) (onAxis n (natAbs z)) (subst T (sym (not-false (nonNeg z && onAxis n (natAbs z)) e)) tt)
 
-pub record Passed (nx ny : ℕ) (p q : Particle) : Type 0 where
-  pub vx : natAbs (q .vx) ≤ 63
-  pub vy : natAbs (q .vy) ≤ 63
-  pub bxx : natAbs (q .bxx) ≤ 2047
-  pub bxy : natAbs (q .bxy) ≤ 2047
-  pub byx : natAbs (q .byx) ≤ 2047
-  pub byy : natAbs (q .byy) ≤ 2047
-  pub x : T (nonNeg (newCoordinate alongX p (q .vx))) × T (onAxis nx (natAbs (newCoordinate alongX p (q .vx))))
-  pub y : T (nonNeg (newCoordinate alongY p (q .vy))) × T (onAxis ny (natAbs (newCoordinate alongY p (q .vy))))
+-- numbers that pass: the new place (a, b), velocity (u, v) and entries of B
+pub record Checked (nx ny : ℕ) (a b u v xx xy yx yy : ℤ) : Type 0 where
+  pub vx : natAbs u ≤ 63
+  pub vy : natAbs v ≤ 63
+  pub bxx : natAbs xx ≤ 2047
+  pub bxy : natAbs xy ≤ 2047
+  pub byx : natAbs yx ≤ 2047
+  pub byy : natAbs yy ≤ 2047
+  pub x : T (nonNeg a) × T (onAxis nx (natAbs a))
+  pub y : T (nonNeg b) × T (onAxis ny (natAbs b))
+
+pub checked : {A : Type 0} (nx ny : ℕ) (x y vx vy bxx bxy byx byy : ℤ) (k : ℕ) (rest : Answer A) {u : A} → firstOf (tooFast vx vy) (tooSteep bxx bxy byx byy) (offGrid nx ny x y) k rest ≡ result u → Checked nx ny x y vx vy bxx bxy byx byy × (rest ≡ result u)
+checked nx ny x y vx vy bxx bxy byx byy k rest e =
+    let first = answers.passed (tooFast vx vy) 13 k _ e in
+    let second = answers.passed (tooSteep bxx bxy byx byy) 14 k _ (first .1) in
+    let third = answers.passed (offGrid nx ny x y) 15 k rest (second .1) in
+    let v = or-false (beyond 63 vx) (beyond 63 vy) (first .0) in
+    let b = or-false (beyond 2047 bxx || beyond 2047 bxy) (beyond 2047 byx || beyond 2047 byy) (second .0) in
+    let bx = or-false (beyond 2047 bxx) (beyond 2047 bxy) (b .0) in
+    let by = or-false (beyond 2047 byx) (beyond 2047 byy) (b .1) in
+    let place = or-false (offAxis nx x) (offAxis ny y) (third .0) in (
+      record {
+        vx = within 63 vx (v .0);
+        vy = within 63 vy (v .1);
+        bxx = within 2047 bxx (bx .0);
+        bxy = within 2047 bxy (bx .1);
+        byx = within 2047 byx (by .0);
+        byy = within 2047 byy (by .1);
+        x = on-axis nx x (place .0);
+        y = on-axis ny y (place .1);
+      },
+      third .1,
+    )
+
+-- p before its move, q after it
+abbrev pub Passed : ℕ → ℕ → Particle → Particle → Type 0
+Passed nx ny p q =
+    Checked nx ny (newCoordinate alongX p (q .vx)) (newCoordinate alongY p (q .vy)) (q .vx) (q .vy) (q .bxx) (q .bxy) (q .byx) (q .byy)
 
 pub passed : {A : Type 0} (nx ny : ℕ) (p q : Particle) (k : ℕ) (rest : Answer A) {u : A} → moveCheck nx ny p q k rest ≡ result u → Passed nx ny p q × (rest ≡ result u)
 unfolding moveCheck
 passed nx ny p q k rest e =
-    let first = answers.passed (tooFast (q .vx) (q .vy)) 13 k _ e in
-    let second = answers.passed (tooSteep (q .bxx) (q .bxy) (q .byx) (q .byy)) 14 k _ (first .1) in
-    let third = answers.passed (offGrid nx ny (newCoordinate alongX p (q .vx)) (newCoordinate alongY p (q .vy))) 15 k rest (second .1) in
-    let v = or-false (beyond 63 (q .vx)) (beyond 63 (q .vy)) (first .0) in
-    let b = or-false (beyond 2047 (q .bxx) || beyond 2047 (q .bxy)) (beyond 2047 (q .byx) || beyond 2047 (q .byy)) (second .0) in
-    let bx = or-false (beyond 2047 (q .bxx)) (beyond 2047 (q .bxy)) (b .0) in
-    let by = or-false (beyond 2047 (q .byx)) (beyond 2047 (q .byy)) (b .1) in
-    let place = or-false (offAxis nx (newCoordinate alongX p (q .vx))) (offAxis ny (newCoordinate alongY p (q .vy))) (third .0) in (
-      record {
-        vx = within 63 (q .vx) (v .0);
-        vy = within 63 (q .vy) (v .1);
-        bxx = within 2047 (q .bxx) (bx .0);
-        bxy = within 2047 (q .bxy) (bx .1);
-        byx = within 2047 (q .byx) (by .0);
-        byy = within 2047 (q .byy) (by .1);
-        x = on-axis nx (newCoordinate alongX p (q .vx)) (place .0);
-        y = on-axis ny (newCoordinate alongY p (q .vy)) (place .1);
-      },
-      third .1,
-    )
+    checked nx ny (newCoordinate alongX p (q .vx)) (newCoordinate alongY p (q .vy)) (q .vx) (q .vy) (q .bxx) (q .bxy) (q .byx) (q .byy) k rest e

@@ -1,7 +1,7 @@
 -- A gather that is not refused keeps a particle set within its limits.
 --     set-kept      the moved particles are within the limits
 --     all-moved     the array that `gather_from` then leaves holds the moved particles
---     target-set    and is such a set
+--     holds-moved   and is within the limits
 -- Assumes nothing.
 use mathlib.Core.Path.{_≡_, refl, sym, ap, ap₂, subst, subst₂, _∙_}
 use mathlib.Core.List.{List, [], _∷_, _++_, map, append-nil}
@@ -16,10 +16,10 @@ use Rattle.particle.specs.declared.Particle.{Particle}
 use Rattle.apic.specs.Step.{moved}
 use Rattle.apic.specs.Totals.{totalMass}
 use Rattle.apic.specs.Limits.{ParticleLimits, SetLimits, Rising}
-use Rattle.unpacked.specs.Unpacked.{unpacked, particlesOf, UnpackedSet}
-use Rattle.unpacked.proofs.Laws.{count, particlesOf-unpacked}
+use Rattle.unpacked.specs.Unpacked.{perParticle, unpacked, Holds}
+use Rattle.unpacked.proofs.Laws.{numbers-count}
 use Rattle.gather_core.specs.declared.Gathered.{Gathered}
-use Rattle.gather_core.specs.Gather.{gathered, moveChecks, answerFrom, toldGathered, movedBefore, movedInto, targetFrom, Gatherable, GathersFrom}
+use Rattle.gather_core.specs.Gather.{gathered, moveChecks, answerFrom, toldGathered, movedBefore, movedInto, targetFrom, GathersFrom}
 use Rattle.gather_core.proofs.Checks.{Passed, passed}
 
 -- identifiers and masses are kept, by any move
@@ -34,8 +34,8 @@ module _ (move : Particle → Particle) (same-identifier : (p : Particle) → mo
   mass-kept [] = refl
   mass-kept (p ∷ ps) = ap₂ _+_ (same-mass p) (mass-kept ps)
 
-module _ (nx ny : ℕ) (ux uy : List ℤ) where
-  particle-kept : (p : Particle) → ParticleLimits nx ny p → Passed nx ny p (gathered nx ny ux uy p) → ParticleLimits nx ny (gathered nx ny ux uy p)
+module _ (w : ℕ → ℕ → ℤ) (nx ny : ℕ) (ux uy : List ℤ) where
+  particle-kept : (p : Particle) → ParticleLimits nx ny p → Passed nx ny p (gathered w nx ny ux uy p) → ParticleLimits nx ny (gathered w nx ny ux uy p)
   unfolding moved
   particle-kept p l h =
       record {
@@ -52,51 +52,44 @@ module _ (nx ny : ℕ) (ux uy : List ℤ) where
         y-on = h .y .1;
       }
 
-  each-kept : (k : ℕ) (ps : List Particle) → Each (ParticleLimits nx ny) ps → moveChecks {A = Unit {0}} nx ny (gathered nx ny ux uy) k ps (result tt) ≡ result tt → Each (ParticleLimits nx ny) (map (gathered nx ny ux uy) ps)
+  each-kept : (k : ℕ) (ps : List Particle) → Each (ParticleLimits nx ny) ps → moveChecks {A = Unit {0}} nx ny (gathered w nx ny ux uy) k ps (result tt) ≡ result tt → Each (ParticleLimits nx ny) (map (gathered w nx ny ux uy) ps)
   unfolding moveChecks
   each-kept k [] l e = tt
   each-kept k (p ∷ ps) l e =
-      let h = passed nx ny p (gathered nx ny ux uy p) k (moveChecks nx ny (gathered nx ny ux uy) (suc k) ps (result tt)) e in
+      let h = passed nx ny p (gathered w nx ny ux uy p) k (moveChecks nx ny (gathered w nx ny ux uy) (suc k) ps (result tt)) e in
       (particle-kept p (l .0) (h .0), each-kept (suc k) ps (l .1) (h .1))
 
-  same-identifier : (p : Particle) → gathered nx ny ux uy p .identifier ≡ p .identifier
+  same-identifier : (p : Particle) → gathered w nx ny ux uy p .identifier ≡ p .identifier
   unfolding moved
   same-identifier p = refl
 
-  same-mass : (p : Particle) → gathered nx ny ux uy p .mass ≡ p .mass
+  same-mass : (p : Particle) → gathered w nx ny ux uy p .mass ≡ p .mass
   unfolding moved
   same-mass p = refl
 
-  pub set-kept : (k : ℕ) (ps : List Particle) → SetLimits nx ny ps → moveChecks {A = Unit {0}} nx ny (gathered nx ny ux uy) k ps (result tt) ≡ result tt → SetLimits nx ny (map (gathered nx ny ux uy) ps)
+  pub set-kept : (k : ℕ) (ps : List Particle) → SetLimits nx ny ps → moveChecks {A = Unit {0}} nx ny (gathered w nx ny ux uy) k ps (result tt) ≡ result tt → SetLimits nx ny (map (gathered w nx ny ux uy) ps)
   set-kept k ps l e =
       record {
         sizes = l .sizes;
-        count = subst (λ n. n ≤ 4096) (sym (length-map ps (gathered nx ny ux uy))) (l .count);
+        count = subst (λ n. n ≤ 4096) (sym (length-map ps (gathered w nx ny ux uy))) (l .count);
         each = each-kept k ps (l .each) e;
-        rising = rising-kept (gathered nx ny ux uy) same-identifier same-mass ps (l .rising);
-        mass = subst (λ n. n ≤ 131072) (sym (mass-kept (gathered nx ny ux uy) same-identifier same-mass ps)) (l .mass);
+        rising = rising-kept (gathered w nx ny ux uy) same-identifier same-mass ps (l .rising);
+        mass = subst (λ n. n ≤ 131072) (sym (mass-kept (gathered w nx ny ux uy) same-identifier same-mass ps)) (l .mass);
       }
 
 -- ---- the target of a call that is not refused
 
-module _ {first nx ny : ℕ} {source ux uy target target′ : List ℤ} {weights : List (List ℕ)} {r : Gathered} (given : Gatherable nx ny source weights ux uy target) (g : GathersFrom first nx ny source ux uy target target′ r) (done : toldGathered r ≡ result tt) where
-  passes : answerFrom first nx ny ux uy (particlesOf source) ≡ result tt
+module _ {w : ℕ → ℕ → ℤ} {first nx ny : ℕ} {source ux uy target target′ : List ℤ} {ps : List Particle} {r : Gathered} (s : Holds nx ny source ps) (room : length target ≡ length source) (g : GathersFrom w first nx ny ps ux uy target target′ r) (done : toldGathered r ≡ result tt) where
+  passes : answerFrom w first nx ny ux uy ps ≡ result tt
   passes = sym (g .answer) ∙ done
 
-  pub all-moved : target′ ≡ unpacked (map (gathered nx ny ux uy) (particlesOf source))
+  pub all-moved : target′ ≡ unpacked (map (gathered w nx ny ux uy) ps)
   unfolding targetFrom
   all-moved =
       g .target-is
-      ∙ ap (λ a. movedInto (gathered nx ny ux uy) (movedBefore a first (length (particlesOf source))) (particlesOf source) target) passes
-      ∙ ap₂ (λ ps l. unpacked (map (gathered nx ny ux uy) ps) ++ l) (take-length (particlesOf source)) (drop-of-length-le target {i = 10 * length (particlesOf source)} (omega (arith, given .room, count (given .particles))))
-      ∙ append-nil (unpacked (map (gathered nx ny ux uy) (particlesOf source)))
+      ∙ ap (λ a. movedInto (gathered w nx ny ux uy) (movedBefore a first (length ps)) ps target) passes
+      ∙ ap₂ (λ qs l. unpacked (map (gathered w nx ny ux uy) qs) ++ l) (take-length ps) (drop-of-length-le target {i = perParticle * length ps} (omega (arith, room, numbers-count s)))
+      ∙ append-nil (unpacked (map (gathered w nx ny ux uy) ps))
 
-  pub target-set : UnpackedSet nx ny target′
-  target-set =
-      record {
-        is = all-moved ∙ ap unpacked (sym reads);
-        limits = subst (SetLimits nx ny) (sym reads) (set-kept nx ny ux uy first (particlesOf source) (given .particles .limits) passes);
-      }
-    where
-      reads : particlesOf target′ ≡ map (gathered nx ny ux uy) (particlesOf source)
-      reads = ap particlesOf all-moved ∙ particlesOf-unpacked (map (gathered nx ny ux uy) (particlesOf source))
+  pub holds-moved : Holds nx ny target′ (map (gathered w nx ny ux uy) ps)
+  holds-moved = record { is = all-moved; limits = set-kept w nx ny ux uy first ps (s .limits) passes }

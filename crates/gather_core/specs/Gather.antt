@@ -8,20 +8,19 @@ use lib.Dec.{ltb}
 use lib.ListN.{length, take, drop}
 use lib.IntN.{ℤ, natAbs}
 use lib.Signed.{nonNeg}
-use Rattle.arith.specs.Rounding.{nearest, halvesAway}
+use Rattle.arith.specs.Rounding.{rounded}
 use Rattle.arith.specs.Sums.{Each}
 use Rattle.refusal.specs.Refused.{Answer, result, refused, refusedBy, refuseIf}
-use Rattle.spline.specs.Spline.{onAxis, axisWeight}
-use Rattle.spline.specs.Answers.{table}
+use Rattle.spline.specs.Spline.{onAxis}
 use Rattle.particle.specs.declared.Particle.{Particle}
 use Rattle.apic.specs.Step.{moved, node, newCoordinate, alongX, alongY}
-use Rattle.unpacked.specs.Unpacked.{unpacked, particlesOf, UnpackedSet}
+use Rattle.unpacked.specs.Unpacked.{perParticle, unpacked, Holds, UnpackedSet}
 use Rattle.gather_core.specs.declared.Gathered.{Gathered}
 use Rattle.gather_core.specs.declared.Gathered.the-variants.{Done, Refused}
 
--- the particle after the gather, from node velocities that stand in two lists: the engine's rounding and weights
-abbrev pub gathered : ℕ → ℕ → List ℤ → List ℤ → Particle → Particle
-gathered nx ny ux uy p = moved (nearest halvesAway) axisWeight nx ny (node nx ux) (node nx uy) p
+-- the particle after the gather, from node velocities that stand in two lists: the engine's rounding, and axis weights w
+abbrev pub gathered : (ℕ → ℕ → ℤ) → ℕ → ℕ → List ℤ → List ℤ → Particle → Particle
+gathered w nx ny ux uy p = moved rounded w nx ny (node nx ux) (node nx uy) p
 
 -- ---- the refusals of a record: 13 new velocity beyond ±63, 14 new B beyond ±2047, 15 new place off the grid (document 01's bath)
 
@@ -60,10 +59,10 @@ moveChecks nx ny move k [] rest = rest
 moveChecks nx ny move k (p ∷ ps) rest = moveCheck nx ny p (move p) k (moveChecks nx ny move (suc k) ps rest)
 
 -- the answer for a list of particles, the first of which is record `first`
-abbrev pub answerFrom : ℕ → ℕ → ℕ → List ℤ → List ℤ → List Particle → Answer (Unit {0})
-answerFrom first nx ny ux uy ps = moveChecks nx ny (gathered nx ny ux uy) first ps (result tt)
+abbrev pub answerFrom : (ℕ → ℕ → ℤ) → ℕ → ℕ → ℕ → List ℤ → List ℤ → List Particle → Answer (Unit {0})
+answerFrom w first nx ny ux uy ps = moveChecks nx ny (gathered w nx ny ux uy) first ps (result tt)
 
--- ---- what `gather_from` and `gather_all` ask and promise
+-- ---- what `gather_from` asks and promises
 
 abbrev pub toldGathered : Gathered → Answer (Unit {0})
 toldGathered Done = result tt
@@ -74,9 +73,8 @@ pub record NodeVelocities (nx ny : ℕ) (u : List ℤ) : Type 0 where
   pub count : length u ≡ nx * ny
   pub each : Each (λ z. natAbs z ≤ 131072) u
 
-pub record Gatherable (nx ny : ℕ) (source : List ℤ) (weights : List (List ℕ)) (ux uy target : List ℤ) : Type 0 where
+pub record Gatherable (nx ny : ℕ) (source ux uy target : List ℤ) : Type 0 where
   pub particles : UnpackedSet nx ny source
-  pub weights-are : weights ≡ table
   pub x-velocities : NodeVelocities nx ny ux
   pub y-velocities : NodeVelocities nx ny uy
   pub room : length target ≡ length source
@@ -88,16 +86,18 @@ movedBefore (refused n k) first count = k - first
 
 -- the first n particles moved, and behind them what the target held
 abbrev pub movedInto : (Particle → Particle) → ℕ → List Particle → List ℤ → List ℤ
-movedInto move n ps target = unpacked (map move (take n ps)) ++ drop (10 * n) target
+movedInto move n ps target = unpacked (map move (take n ps)) ++ drop (perParticle * n) target
 
-unfoldable pub targetFrom : ℕ → ℕ → ℕ → List ℤ → List ℤ → List Particle → List ℤ → List ℤ
-targetFrom first nx ny ux uy ps target =
-    movedInto (gathered nx ny ux uy) (movedBefore (answerFrom first nx ny ux uy ps) first (length ps)) ps target
+unfoldable pub targetFrom : (ℕ → ℕ → ℤ) → ℕ → ℕ → ℕ → List ℤ → List ℤ → List Particle → List ℤ → List ℤ
+targetFrom w first nx ny ux uy ps target =
+    movedInto (gathered w nx ny ux uy) (movedBefore (answerFrom w first nx ny ux uy ps) first (length ps)) ps target
 
 -- the answer, and the target afterwards, for a target of any content
-pub record GathersFrom (first nx ny : ℕ) (source ux uy target target′ : List ℤ) (r : Gathered) : Type 0 where
-  pub answer : toldGathered r ≡ answerFrom first nx ny ux uy (particlesOf source)
-  pub target-is : target′ ≡ targetFrom first nx ny ux uy (particlesOf source) target
+pub record GathersFrom (w : ℕ → ℕ → ℤ) (first nx ny : ℕ) (ps : List Particle) (ux uy target target′ : List ℤ) (r : Gathered) : Type 0 where
+  pub answer : toldGathered r ≡ answerFrom w first nx ny ux uy ps
+  pub target-is : target′ ≡ targetFrom w first nx ny ux uy ps target
 
-abbrev pub Gathers : ℕ → ℕ → List ℤ → List ℤ → List ℤ → List ℤ → List ℤ → Gathered → Type 0
-Gathers nx ny source ux uy target target′ r = GathersFrom 0 nx ny source ux uy target target′ r
+-- whichever particles the source holds
+abbrev pub Gathers : (ℕ → ℕ → ℤ) → ℕ → ℕ → ℕ → List ℤ → List ℤ → List ℤ → List ℤ → List ℤ → Gathered → Type 0
+Gathers w first nx ny source ux uy target target′ r =
+    (ps : List Particle) → Holds nx ny source ps → GathersFrom w first nx ny ps ux uy target target′ r

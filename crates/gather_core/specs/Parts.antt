@@ -1,7 +1,7 @@
 -- What the helpers of the gather answer: a record's checks on plain numbers, and its numbers stored where it passes. Assumes nothing.
 use mathlib.Core.Path.{_≡_}
 use mathlib.Core.List.{List}
-use Prim.Native.Nat.{ℕ, _+_, _*_, _<_}
+use Prim.Native.Nat.{ℕ, _+_, _*_, _≤_}
 use lib.ListN.{length, set}
 use lib.IntN.{ℤ, pos}
 use Rattle.arith.specs.Size.{Bound}
@@ -9,8 +9,9 @@ use Rattle.refusal.specs.Refused.{Answer, result, keptUnless}
 use Rattle.particle.specs.declared.Particle.{Particle}
 use Rattle.apic.specs.Step.{newCoordinate, alongX, alongY}
 use Rattle.apic.specs.Limits.{SizeLimits}
+use Rattle.unpacked.specs.Unpacked.{perParticle, HoldsAt}
 use Rattle.gather_point.specs.declared.AffineVelocity.{AffineVelocity}
-use Rattle.gather_core.specs.Gather.{tooFast, tooSteep, offGrid, firstOf, moveCheck, toldGathered}
+use Rattle.gather_core.specs.Gather.{gathered, tooFast, tooSteep, offGrid, firstOf, moveCheck, toldGathered}
 use Rattle.gather_core.specs.declared.Gathered.{Gathered}
 
 -- what record k is refused for, come to (x, y) with a on the x axis and b on the y axis
@@ -18,28 +19,45 @@ unfoldable pub checkOf : ℕ → ℕ → ℕ → ℤ → ℤ → AffineVelocity 
 checkOf k nx ny x y a b =
     firstOf (tooFast (a .v) (b .v)) (tooSteep (a .bx) (a .by) (b .bx) (b .by)) (offGrid nx ny x y) k (result tt)
 
-unfoldable pub fiveStored : List ℤ → ℕ → ℤ → ℤ → ℤ → ℤ → ℤ → List ℤ
-fiveStored l at a b c d e = set (set (set (set (set l at a) (at + 1) b) (at + 2) c) (at + 3) d) (at + 4) e
+-- a number that 16 bits with sign hold
+abbrev pub Narrow : ℤ → Type 0
+Narrow z = Bound z 32767
 
--- the ten numbers of a particle, in the order of `numbers`
-unfoldable pub particleStored : List ℤ → ℕ → ℤ → ℤ → ℤ → ℤ → AffineVelocity → AffineVelocity → List ℤ
-particleStored l at identifier mass x y a b =
-    fiveStored (fiveStored l at identifier mass x y (a .v)) (at + 5) (b .v) (a .bx) (a .by) (b .bx) (b .by)
+unfoldable pub threeStored : List ℤ → ℕ → ℤ → ℤ → ℤ → List ℤ
+threeStored l at a b c = set (set (set l at a) (at + 1) b) (at + 2) c
+
+-- the numbers of a particle, in the order of `numbers`
+unfoldable pub particleStored : List ℤ → ℕ → ℤ → ℤ → ℤ → AffineVelocity → AffineVelocity → List ℤ
+particleStored l at mass x y a b =
+    threeStored (threeStored (threeStored l at mass x y) (at + 3) (a .v) (b .v) (a .bx)) (at + 6) (a .by) (b .bx) (b .by)
+
+pub record Storable (at : ℕ) (mass x y : ℤ) (a b : AffineVelocity) (target : List ℤ) : Type 0 where
+  pub room : at + perParticle ≤ length target
+  pub mass-size : Narrow mass
+  pub x-size : Narrow x
+  pub y-size : Narrow y
+  pub vx-size : Narrow (a .v)
+  pub vy-size : Narrow (b .v)
+  pub bxx-size : Narrow (a .bx)
+  pub bxy-size : Narrow (a .by)
+  pub byx-size : Narrow (b .bx)
+  pub byy-size : Narrow (b .by)
 
 -- ---- one record
 
-pub record Settling (k nx ny : ℕ) (x y : ℤ) (a b : AffineVelocity) (target : List ℤ) : Type 0 where
+pub record Settling (k nx ny : ℕ) (mass x y : ℤ) (a b : AffineVelocity) (target : List ℤ) : Type 0 where
   pub sizes : SizeLimits nx ny
-  pub room : 10 * k + 9 < length target
+  pub room : perParticle * k + perParticle ≤ length target
+  pub mass-size : Narrow mass
   pub x-size : Bound x 4095
   pub y-size : Bound y 4095
   pub vx-size : Bound (a .v) 524288
   pub vy-size : Bound (b .v) 524288
 
 -- (x, y) is the new place of the record with this index
-pub record Settled (index k nx ny : ℕ) (identifier mass x y : ℤ) (a b : AffineVelocity) (target target′ : List ℤ) (r : Gathered) : Type 0 where
+pub record Settled (index k nx ny : ℕ) (mass x y : ℤ) (a b : AffineVelocity) (target target′ : List ℤ) (r : Gathered) : Type 0 where
   pub answer : toldGathered r ≡ checkOf index nx ny x y a b
-  pub target-is : target′ ≡ keptUnless (toldGathered r) (particleStored target (10 * k) identifier mass x y a b) target
+  pub target-is : target′ ≡ keptUnless (toldGathered r) (particleStored target (perParticle * k) mass x y a b) target
 
 -- a particle's velocity on the x axis and on the y axis
 abbrev pub alongXOf : Particle → AffineVelocity
@@ -51,9 +69,14 @@ alongYOf p = record { v = p .vy; bx = p .byx; by = p .byy }
 -- the numbers of a particle that is p before its move and q after it
 unfoldable pub movedStored : List ℤ → ℕ → Particle → Particle → List ℤ
 movedStored l at p q =
-    particleStored l at (pos (p .identifier)) (pos (p .mass)) (newCoordinate alongX p (q .vx)) (newCoordinate alongY p (q .vy)) (alongXOf q) (alongYOf q)
+    particleStored l at (pos (p .mass)) (newCoordinate alongX p (q .vx)) (newCoordinate alongY p (q .vy)) (alongXOf q) (alongYOf q)
 
 -- the record with this index, which stands at place k, is p before its move and q after it
 pub record MovesOne (nx ny index k : ℕ) (p q : Particle) (target target′ : List ℤ) (r : Gathered) : Type 0 where
   pub answer : toldGathered r ≡ moveCheck nx ny p q index (result tt)
-  pub target-is : target′ ≡ keptUnless (toldGathered r) (movedStored target (10 * k) p q) target
+  pub target-is : target′ ≡ keptUnless (toldGathered r) (movedStored target (perParticle * k) p q) target
+
+-- whichever particle stands at place k of the source
+abbrev pub MovesAt : (ℕ → ℕ → ℤ) → ℕ → ℕ → ℕ → ℕ → List ℤ → List ℤ → List ℤ → List ℤ → List ℤ → Gathered → Type 0
+MovesAt w nx ny index k source ux uy target target′ r =
+    (p : Particle) → HoldsAt nx ny source k p → MovesOne nx ny index k p (gathered w nx ny ux uy p) target target′ r

@@ -1,18 +1,20 @@
 // The grid-to-particle transfer on unpacked particles: every particle gathered, moved, checked and stored.
 ghost use mathlib.Core.Path.{_≡_};
 ghost use mathlib.Core.Bool.{_||_};
-ghost use Prim.Native.Nat.{_+_, _-_, _*_, _<_, _≤_};
-ghost use lib.ListN.{length, getD, set};
-ghost use lib.IntN.{pos, natAbs, _+ℤ_};
-ghost use lib.Signed.{_≤ℤ_};
+ghost use Prim.Native.Nat.{_+_, _-_, _*_, _/_, _<_, _≤_};
+ghost use lib.ListN.{length, set};
+ghost use lib.IntN.{pos, _+ℤ_};
 ghost use Rattle.arith.specs.Size.{Bound};
 ghost use Rattle.refusal.specs.Refused.{result};
+ghost use Rattle.limits.specs.Limits.{mostRecords};
+ghost use Rattle.spline.specs.Kernel.{weightIn};
 ghost use Rattle.apic.specs.Limits.{SizeLimits};
-ghost use Rattle.unpacked.specs.Unpacked.{particlesOf, particleAt};
-ghost use Rattle.gather_core.specs.Gather.{beyond, offAxis, firstOf, toldGathered, gathered, Gatherable, GathersFrom, Gathers};
-ghost use Rattle.gather_core.specs.Parts.{checkOf, fiveStored, particleStored, Settling, Settled, MovesOne};
+ghost use Rattle.unpacked.specs.Unpacked.{perParticle};
+ghost use Rattle.gather_core.specs.Gather.{beyond, offAxis, firstOf, toldGathered, Gatherable, Gathers};
+ghost use Rattle.gather_core.specs.Parts.{checkOf, Narrow, threeStored, particleStored, Storable, Settling, Settled, MovesAt};
 use gather_point::AffineVelocity;
 use refusal::Refusal;
+use unpacked::NUMBERS;
 
 pub enum Gathered {
     Done,
@@ -110,49 +112,39 @@ fn check(
     answer(k, fast, steep, off)
 }
 
-fn store(to: &mut [i64], at: usize, z: i64)
-    requires { ⌜ at < length (now to) ⌝ }
+fn store(to: &mut [i16], at: usize, z: i64)
+    requires { ⌜ (at < length (now to)) × Narrow z ⌝ }
     ensures { λ r. ⌜ now (to .exit) ≡ set (now (to .entry)) at z ⌝ }
 {
-    to[at] = z;
+    to[at] = z as i16;
 }
 
-// Five numbers from place `at` on.
-fn store_five(to: &mut [i64], at: usize, a: i64, b: i64, c: i64, d: i64, e: i64)
-    requires { ⌜ at + 4 < length (now to) ⌝ }
-    ensures { λ r. ⌜ now (to .exit) ≡ fiveStored (now (to .entry)) at a b c d e ⌝ }
+// Three numbers from place `at` on.
+fn store_three(to: &mut [i16], at: usize, a: i64, b: i64, c: i64)
+    requires { ⌜ (at + 2 < length (now to)) × Narrow a × Narrow b × Narrow c ⌝ }
+    ensures { λ r. ⌜ now (to .exit) ≡ threeStored (now (to .entry)) at a b c ⌝ }
 {
     store(to, at, a);
     store(to, at + 1, b);
     store(to, at + 2, c);
-    store(to, at + 3, d);
-    store(to, at + 4, e);
 }
 
-// The ten numbers of a particle, from place `at` on.
+// The numbers of a particle, from place `at` on.
 fn store_particle(
-    to: &mut [i64],
+    to: &mut [i16],
     at: usize,
-    identifier: i64,
     mass: i64,
     x: i64,
     y: i64,
     a: AffineVelocity,
     b: AffineVelocity,
 )
-    requires { ⌜ at + 9 < length (now to) ⌝ }
-    ensures { λ r. ⌜ now (to .exit) ≡ particleStored (now (to .entry)) at identifier mass x y a b ⌝ }
+    requires { ⌜ Storable at mass x y a b (now to) ⌝ }
+    ensures { λ r. ⌜ now (to .exit) ≡ particleStored (now (to .entry)) at mass x y a b ⌝ }
 {
-    store_five(to, at, identifier, mass, x, y, a.v);
-    store_five(to, at + 5, b.v, a.bx, a.by, b.bx, b.by);
-}
-
-// A coordinate that stands in an array of particles.
-fn coordinate(from: &[i64], at: usize) -> usize
-    requires { ⌜ (at < length (now from)) × (pos 0 ≤ℤ getD (now from) at (pos 0)) ⌝ }
-    ensures { λ r. ⌜ r ≡ natAbs (getD (now (from .entry)) at (pos 0)) ⌝ }
-{
-    from[at] as usize
+    store_three(to, at, mass, x, y);
+    store_three(to, at + 3, a.v, b.v, a.bx);
+    store_three(to, at + 6, a.by, b.bx, b.by);
 }
 
 // A coordinate that gains a velocity.
@@ -169,23 +161,22 @@ fn settle(
     k: usize,
     nx: usize,
     ny: usize,
-    identifier: i64,
     mass: i64,
     x: i64,
     y: i64,
     a: AffineVelocity,
     b: AffineVelocity,
-    to: &mut [i64],
+    to: &mut [i16],
 ) -> Gathered
-    requires { ⌜ Settling k nx ny x y a b (now to) ⌝ }
-    ensures { λ r. ⌜ Settled index k nx ny identifier mass (x +ℤ a .v) (y +ℤ b .v) a b (now (to .entry)) (now (to .exit)) r ⌝ }
+    requires { ⌜ Settling k nx ny mass x y a b (now to) ⌝ }
+    ensures { λ r. ⌜ Settled index k nx ny mass (x +ℤ a .v) (y +ℤ b .v) a b (now (to .entry)) (now (to .exit)) r ⌝ }
 {
     let new_x = gain(x, a.v);
     let new_y = gain(y, b.v);
     match check(index, nx, ny, new_x, new_y, a, b) {
         Gathered::Refused(refusal) => Gathered::Refused(refusal),
         Gathered::Done => {
-            store_particle(to, 10 * k, identifier, mass, new_x, new_y, a, b);
+            store_particle(to, NUMBERS * k, mass, new_x, new_y, a, b);
             Gathered::Done
         }
     }
@@ -194,31 +185,30 @@ fn settle(
 // Moves particle k of `from`, the first of which is record `first`, into `to`, unless it is refused. `gather_from` calls it.
 fn move_one(
     first: usize,
-    from: &[i64],
+    from: &[i16],
     k: usize,
     nx: usize,
     ny: usize,
     table: &[[u16; 3]; 64],
     ux: &[i64],
     uy: &[i64],
-    to: &mut [i64],
+    to: &mut [i16],
 ) -> Gathered
-    requires { ⌜ Gatherable nx ny (now from) (now table) (now ux) (now uy) (now to) × (first ≤ 4096) × (k < length (particlesOf (now from))) ⌝ }
-    ensures { λ r. ⌜ MovesOne nx ny (first + k) k (particleAt (now (from .entry)) k) (gathered nx ny (now (ux .entry)) (now (uy .entry)) (particleAt (now (from .entry)) k)) (now (to .entry)) (now (to .exit)) r ⌝ }
+    requires { ⌜ Gatherable nx ny (now from) (now ux) (now uy) (now to) × (first ≤ mostRecords) × (k < length (now from) / perParticle) ⌝ }
+    ensures { λ r. ⌜ MovesAt (weightIn (now (table .entry))) nx ny (first + k) k (now (from .entry)) (now (ux .entry)) (now (uy .entry)) (now (to .entry)) (now (to .exit)) r ⌝ }
 {
-    let at = 10 * k;
-    let x = coordinate(from, at + 2);
-    let y = coordinate(from, at + 3);
+    let at = NUMBERS * k;
+    let x = unpacked::natural_at(from, at + 1) as usize;
+    let y = unpacked::natural_at(from, at + 2) as usize;
     let m = gather_point::gather_at(x, y, nx, table, ux, uy);
     settle(
         first + k,
         k,
         nx,
         ny,
-        from[at],
-        from[at + 1],
-        from[at + 2],
-        from[at + 3],
+        unpacked::number_at(from, at),
+        x as i64,
+        y as i64,
         m.x,
         m.y,
         to,
@@ -226,21 +216,21 @@ fn move_one(
 }
 
 // Moves the particles of `from`, the first of which is record `first`, into `to`, all of them or those before a refused one.
-// `gather_all` and the gather of crate transfer call it.
+// The step and the gather call it.
 pub fn gather_from(
     first: usize,
-    from: &[i64],
+    from: &[i16],
     nx: usize,
     ny: usize,
     table: &[[u16; 3]; 64],
     ux: &[i64],
     uy: &[i64],
-    to: &mut [i64],
+    to: &mut [i16],
 ) -> Gathered
-    requires { ⌜ Gatherable nx ny (now from) (now table) (now ux) (now uy) (now to) × (first ≤ 4096) ⌝ }
-    ensures { λ r. ⌜ GathersFrom first nx ny (now (from .entry)) (now (ux .entry)) (now (uy .entry)) (now (to .entry)) (now (to .exit)) r ⌝ }
+    requires { ⌜ Gatherable nx ny (now from) (now ux) (now uy) (now to) × (first ≤ mostRecords) ⌝ }
+    ensures { λ r. ⌜ Gathers (weightIn (now (table .entry))) first nx ny (now (from .entry)) (now (ux .entry)) (now (uy .entry)) (now (to .entry)) (now (to .exit)) r ⌝ }
 {
-    let count = from.len() / 10;
+    let count = from.len() / NUMBERS;
     let mut k = 0;
     while k < count {
         match move_one(first, from, k, nx, ny, table, ux, uy, to) {
@@ -250,20 +240,4 @@ pub fn gather_from(
         k += 1;
     }
     Gathered::Done
-}
-
-// The same for a whole set. The step calls it.
-pub fn gather_all(
-    from: &[i64],
-    nx: usize,
-    ny: usize,
-    table: &[[u16; 3]; 64],
-    ux: &[i64],
-    uy: &[i64],
-    to: &mut [i64],
-) -> Gathered
-    requires { ⌜ Gatherable nx ny (now from) (now table) (now ux) (now uy) (now to) ⌝ }
-    ensures { λ r. ⌜ Gathers nx ny (now (from .entry)) (now (ux .entry)) (now (uy .entry)) (now (to .entry)) (now (to .exit)) r ⌝ }
-{
-    gather_from(0, from, nx, ny, table, ux, uy, to)
 }

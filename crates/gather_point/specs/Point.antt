@@ -1,15 +1,15 @@
 -- What the helpers of the gather answer: sums over the nine nodes around a particle, taken row by row. That these are the
 -- sums over all nodes is proved (proofs/Nodes.antt, axis-at), so nobody has to believe these. Assumes nothing.
 use mathlib.Core.Path.{_≡_}
-use mathlib.Core.List.{List, []}
-use Prim.Native.Nat.{ℕ, _+_, _-_, _*_, _%_, _^_, _≤_, _<_}
+use mathlib.Core.List.{List}
+use Prim.Native.Nat.{ℕ, _+_, _-_, _*_, _^_, _≤_, _<_}
 use lib.ListN.{length, getD}
 use lib.IntN.{ℤ, pos, natAbs, _+ℤ_, _-ℤ_, _*ℤ_}
 use Rattle.arith.specs.Size.{Bound}
 use Rattle.arith.specs.Sums.{Each}
-use Rattle.arith.specs.Rounding.{nearest, halvesAway}
+use Rattle.arith.specs.Rounding.{rounded}
 use Rattle.spline.specs.Spline.{nearestNode, offset}
-use Rattle.spline.specs.Answers.{rowOf}
+use Rattle.spline.specs.Kernel.{weightsAt}
 use Rattle.spline.specs.declared.AxisWeights.{AxisWeights}
 use Rattle.gather_point.specs.declared.Shares.{Shares}
 use Rattle.gather_point.specs.declared.Block.{Block}
@@ -71,9 +71,9 @@ momentAbout sum tilt q = pos 64 *ℤ tilt -ℤ q *ℤ sum
 unfoldable pub affineVelocityOf : Block → ℤ → ℤ → AffineVelocity
 affineVelocityOf b qx qy =
     record {
-      v = nearest halvesAway (b .sum) (2 ^ 34);
-      bx = nearest halvesAway (momentAbout (b .sum) (b .across) qx) (2 ^ 34);
-      by = nearest halvesAway (momentAbout (b .sum) (b .up) qy) (2 ^ 34);
+      v = rounded (b .sum) (2 ^ 34);
+      bx = rounded (momentAbout (b .sum) (b .across) qx) (2 ^ 34);
+      by = rounded (momentAbout (b .sum) (b .up) qy) (2 ^ 34);
     }
 
 -- the nine nodes of which the first is at place `at`
@@ -103,7 +103,7 @@ pub record Around (nx x y : ℕ) (ux uy : List ℤ) : Type 0 where
 unfoldable pub axisAt : List (List ℕ) → ℕ → List ℤ → ℕ → ℕ → AffineVelocity
 axisAt t nx u x y =
     affineVelocityOf
-    (nineNodes (rowOf (getD t ((x + 32) % 64) [])) (rowOf (getD t ((y + 32) % 64) [])) nx u ((nearestNode y - 1) * nx + (nearestNode x - 1)))
+    (nineNodes (weightsAt t x) (weightsAt t y) nx u ((nearestNode y - 1) * nx + (nearestNode x - 1)))
     (offset x) (offset y)
 
 pub record MotionAt (nx x y : ℕ) (t : List (List ℕ)) (ux uy : List ℤ) (m : Motion) : Type 0 where

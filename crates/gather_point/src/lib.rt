@@ -5,7 +5,7 @@ ghost use lib.ListN.{length};
 ghost use lib.IntN.{pos, natAbs};
 ghost use Rattle.arith.specs.Size.{Bound};
 ghost use Rattle.arith.specs.Sums.{Each};
-ghost use Rattle.arith.specs.Rounding.{nearest, halvesAway};
+ghost use Rattle.arith.specs.Rounding.{rounded};
 ghost use Rattle.spline.specs.Spline.{offset, nearestNode};
 ghost use Rattle.gather_point.specs.Point.{Weighable, sharesOf, weighed, SmallWeights, rowShares, SmallShares, blockOf, SmallBlock, momentAbout, affineVelocityOf, nineNodes, Nine, Around, MotionAt};
 use spline::AxisWeights;
@@ -84,7 +84,7 @@ fn three_rows(w: AxisWeights, a: Shares, b: Shares, c: Shares) -> Block
 // A gathered sum divided by 2^34, to nearest, halves away from zero.
 fn rounded(sum: i64) -> i64
     requires { ⌜ Bound sum 1152921504606846976 ⌝ }
-    ensures { λ r. ⌜ r ≡ nearest halvesAway sum (2 ^ 34) ⌝ }
+    ensures { λ r. ⌜ r ≡ rounded sum (2 ^ 34) ⌝ }
 {
     (sum + (1 << 33) + (sum >> 63)) >> 34
 }
@@ -156,8 +156,8 @@ pub fn gather_at(
     requires { ⌜ Around nx x y (now ux) (now uy) ⌝ }
     ensures { λ r. ⌜ MotionAt nx x y (now (table .entry)) (now (ux .entry)) (now (uy .entry)) r ⌝ }
 {
-    let wx = spline::row(table, (x + 32) % 64);
-    let wy = spline::row(table, (y + 32) % 64);
+    let wx = spline::weights_at(table, x);
+    let wy = spline::weights_at(table, y);
     let at = first_node(nx, x, y);
     let qx = offset_of(x);
     let qy = offset_of(y);

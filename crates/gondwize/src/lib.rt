@@ -2,41 +2,43 @@
 // include/gondwize.h declares them for C.
 use bath_file::FileRead;
 use bath_file::HeaderWritten;
+use particle::NUMBERS;
 use particle::Read;
 use particle::Written;
 use particles::Checked;
-use particles::Totalled;
+use settings::Settings;
 use simulation::Ran;
-use simulation::Settings;
 use simulation::Stepped;
 use spline::Weighed;
+use totals::Totalled;
 use transfer::Moved;
 use transfer::Scattered;
 use update::Updated;
 use wide::answer;
 ghost use mathlib.Core.Path.{_≡_};
-ghost use Rattle.particle.specs.Record.{readAnswer, writeAnswer, written};
-ghost use Rattle.unpacked.specs.Unpacked.{numbers};
-ghost use Rattle.particles.specs.Set.{checkAnswer, totalsAnswer};
+ghost use Rattle.particle.specs.Record.{numbers, readAnswer, writeAnswer, written};
+ghost use Rattle.particles.specs.Set.{checkAnswer};
+ghost use Rattle.totals.specs.Totals.{totalsAnswer};
 ghost use Rattle.spline.specs.Answers.{weightsAnswer};
 ghost use Rattle.transfer.specs.Transfer.{ScatterIs, GatherIs};
 ghost use Rattle.update.specs.Update.{UpdateIs};
-ghost use Rattle.simulation.specs.Step.{Sees, gridsOf, stepAfter};
+ghost use Rattle.apic.specs.Step.{gridsOf};
+ghost use Rattle.simulation.specs.Step.{Sees, stepAfter};
 ghost use Rattle.bath_file.specs.File.{fileAnswer};
 ghost use Rattle.bath_file.specs.File as file;
 ghost use Rattle.wide.specs.Values.{weightValues, sums, settings, particleWith, headerWith};
-ghost use Rattle.gondwize.specs.Coded.{coded, Gives, Tells};
-ghost use Rattle.gondwize.specs.Runs.{RunTells, settingsWith};
+ghost use Rattle.coding.specs.Coded.{coded, Gives, Tells};
+ghost use Rattle.coding.specs.Runs.{RunTells, settingsWith};
 
 // Read a record: ten values.
 #[no_mangle]
-pub extern "C" fn gondwize_read_record(bytes: &[u8], values: &mut [i64; 10]) -> u64
+pub extern "C" fn gondwize_read_record(bytes: &[u8], values: &mut [i64; NUMBERS]) -> u64
     ensures { λ r. ⌜ Gives (readAnswer 0 (now (bytes .entry))) numbers (now (values .entry)) r (now (values .exit)) ⌝ }
 {
     match particle::read_record(bytes) {
         Read::Refused(refusal) => answer::code(refusal),
         Read::Found(p) => {
-            *values = packing::numbers_of(p);
+            *values = particle::numbers_of(p);
             0
         }
     }
@@ -87,11 +89,11 @@ pub extern "C" fn gondwize_totals(
     nx: usize,
     ny: usize,
     records: &[u8],
-    values: &mut [i64; 5],
+    values: &mut [i64; wide::SUMS],
 ) -> u64
     ensures { λ r. ⌜ Gives (totalsAnswer nx ny (now (records .entry))) sums (now (values .entry)) r (now (values .exit)) ⌝ }
 {
-    match particles::set_totals(nx, ny, records) {
+    match totals::set_totals(nx, ny, records) {
         Totalled::Refused(refusal) => answer::code(refusal),
         Totalled::Sums(t) => {
             *values = wide::of_totals(t);
@@ -128,7 +130,7 @@ pub extern "C" fn gondwize_scatter(
         (now (mass .entry)) (now (px .entry)) (now (py .entry)) told
         (now (mass .exit)) (now (px .exit)) (now (py .exit))) r ⌝ }
 {
-    match transfer::scatter(nx, ny, records, mass, px, py) {
+    match scatter::scatter(nx, ny, records, mass, px, py) {
         Scattered::Refused(refusal) => answer::code(refusal),
         Scattered::Done => 0,
     }
@@ -168,7 +170,7 @@ pub extern "C" fn gondwize_gather(
         (now (records .entry)) (now (ux .entry)) (now (uy .entry)) told
         (now (records .exit))) r ⌝ }
 {
-    match transfer::gather(nx, ny, records, ux, uy) {
+    match gather::gather(nx, ny, records, ux, uy) {
         Moved::Refused(refusal) => answer::code(refusal),
         Moved::Done => 0,
     }
@@ -190,7 +192,7 @@ pub extern "C" fn gondwize_step(
         (now (records .entry)) (gridsOf (now (mass .entry)) (now (px .entry)) (now (py .entry)))) told
         (now (records .exit)) (now (mass .exit)) (now (px .exit)) (now (py .exit))) r ⌝ }
 {
-    match simulation::step(Settings { nx, ny, gx, gy }, records, mass, px, py) {
+    match run::step(Settings { nx, ny, gx, gy }, records, mass, px, py) {
         Stepped::Refused(refusal) => answer::code(refusal),
         Stepped::Done => 0,
     }
@@ -214,22 +216,12 @@ pub extern "C" fn gondwize_run(
         (now (records .entry)) (gridsOf (now (mass .entry)) (now (px .entry)) (now (py .entry))) r
         (now (records .exit)) (now (mass .exit)) (now (px .exit)) (now (py .exit)) (now (completed .exit)) ⌝ }
 {
-    let settings = Settings { nx, ny, gx, gy };
-    match simulation::run(settings, steps, records, mass, px, py) {
-        Ran::Stopped(count, refusal) => {
-            *completed = count as u64;
-            answer::code(refusal)
-        }
-        Ran::Done(count) => {
-            *completed = count as u64;
-            0
-        }
-    }
+    coding::run_told(nx, ny, gx, gy, steps, records, mass, px, py, completed)
 }
 
 // Read a file: six values.
 #[no_mangle]
-pub extern "C" fn gondwize_read_file(bytes: &[u8], values: &mut [i64; 6]) -> u64
+pub extern "C" fn gondwize_read_file(bytes: &[u8], values: &mut [i64; wide::SETTINGS]) -> u64
     ensures { λ r. ⌜ Gives (fileAnswer (now (bytes .entry))) settings (now (values .entry)) r (now (values .exit)) ⌝ }
 {
     match bath_file::read_file(bytes) {

@@ -22,11 +22,12 @@ use lib.IntN.{ℤ, pos, natAbs, _+ℤ_, +ℤ-assoc}
 use borrow.Author.Tests.{ltb-true, ltb-false}
 use Rattle.arith.specs.Order.{nonneg-pos}
 use Rattle.arith.specs.Size.{Bound, bound-sum}
+use Rattle.arith.specs.Lists.{getD-tabulated, length-tabulated}
+use Rattle.arith.specs.Neighbours.{neighbours, by-place, neighbours-inside}
 use Rattle.apic.specs.Step.{grid, node}
-use Rattle.unpacked.proofs.Laws.{getD-tabulated, length-tabulated}
 use Rattle.grid_cells.specs.Cells.{addRow, Cells}
 use Rattle.grid_cells.specs.Plus.{plus, massPlus}
-use Rattle.grid_cells.proofs.Spots.{spot, spot-here, spot-else, by-place, three, three-spots, three-inside, added-row, length-row}
+use Rattle.grid_cells.proofs.Spots.{spot, spot-here, spot-else, three-spots, added-row, length-row}
 
 -- ---- nodes and indices
 
@@ -102,11 +103,13 @@ plus-plus nx ny l f g =
     ∙ ap (λ z. z +ℤ g (n % nx) (n / nx)) (getD-plus nx ny l f n h)
     ∙ +ℤ-assoc (getD l n (pos 0)) (f (n % nx) (n / nx)) (g (n % nx) (n / nx)))
 
-pub plus-cells : (nx ny : ℕ) (l : List ℤ) (f : ℕ → ℕ → ℤ) (n t : ℕ) → Cells n l → ((i j : ℕ) → Bound (f i j) t) → Cells (n + t) (plus nx ny l f)
-plus-cells nx ny l f n t c b = record { cell = λ k. go k (ltb k (nx * ny)) refl }
+pub plus-cells : (nx ny : ℕ) (l : List ℤ) (f : ℕ → ℕ → ℤ) (n t : ℕ) → 0 < nx → Cells n l → ((i j : ℕ) → i < nx → j < ny → Bound (f i j) t) → Cells (n + t) (plus nx ny l f)
+plus-cells nx ny l f n t some c b = record { cell = λ k. go k (ltb k (nx * ny)) refl }
   where
     go : (k : ℕ) (r : Bool) → ltb k (nx * ny) ≡ r → Bound (getD (plus nx ny l f) k (pos 0)) (n + t)
-    go k true e = rw (getD-plus nx ny l f k (ltb-true k (nx * ny) e)) (bound-sum (c .cell k) (b (k % nx) (k / nx)))
+    go k true e =
+        let below = ltb-true k (nx * ny) e in
+        rw (getD-plus nx ny l f k below) (bound-sum (c .cell k) (b (k % nx) (k / nx) (column-below nx some k) (line-below nx some ny k below)))
     go k false e =
         rw (List·getD-eq-default (plus nx ny l f) (pos 0) {n = k} (rw (length-plus nx ny l f) (ltb-false k (nx * ny) e)))
         (record { size = zero-le })
@@ -173,7 +176,7 @@ module _ (nx ny a : ℕ) (low : 1 ≤ a) (high : a + 1 < nx) where
   pub row-high : (b : ℕ) → b < ny → b * nx + a + 1 < nx * ny
   row-high b h = rw (add-assoc (b * nx) a 1) (index-below nx ny (a + 1) b high h)
 
-  pub row-added : (l : List ℤ) (b : ℕ) (u v w : ℤ) → length l ≡ nx * ny → b < ny → (n : ℕ) → getD (addRow l (b * nx + a) u v w) n (pos 0) ≡ getD l n (pos 0) +ℤ spot b (three a u v w (n % nx)) (n / nx)
+  pub row-added : (l : List ℤ) (b : ℕ) (u v w : ℤ) → length l ≡ nx * ny → b < ny → (n : ℕ) → getD (addRow l (b * nx + a) u v w) n (pos 0) ≡ getD l n (pos 0) +ℤ spot b (neighbours a u v w (n % nx)) (n / nx)
   row-added l b u v w e h n =
       added-row l (b * nx + a) u v w (row-low b) (rw e (row-high b h)) n
       ∙ ap (λ z. getD l n (pos 0) +ℤ z)
@@ -212,21 +215,21 @@ line-above-index nx a b = more (b * nx) nx a ∙ ap (λ m. m + a) (sym (suc-mul 
 module _ (nx ny a b : ℕ) (xl : 1 ≤ a) (xh : a + 1 < nx) (yl : 1 ≤ b) (yh : b + 1 < ny) (F : ℕ → ℕ → ℤ → ℤ → ℤ) (x-keeps : (i j : ℕ) (w : ℤ) → F i j (pos 0) w ≡ pos 0) (y-keeps : (i j : ℕ) (w : ℤ) → F i j w (pos 0) ≡ pos 0) (lx mx ux ly my uy : ℤ) where
   -- the shares of a line
   shares : ℕ → ℤ → ℕ → ℤ
-  shares j w = three a (F (a - 1) j lx w) (F a j mx w) (F (a + 1) j ux w)
+  shares j w = neighbours a (F (a - 1) j lx w) (F a j mx w) (F (a + 1) j ux w)
 
-  inside : (i j : ℕ) → F i j (three a lx mx ux i) (three b ly my uy j) ≡ three b (shares (b - 1) ly i) (shares b my i) (shares (b + 1) uy i) j
+  inside : (i j : ℕ) → F i j (neighbours a lx mx ux i) (neighbours b ly my uy j) ≡ neighbours b (shares (b - 1) ly i) (shares b my i) (shares (b + 1) uy i) j
   unfolding shares
   inside i j =
-      three-inside (λ j w. F i j (three a lx mx ux i) w) (λ j. y-keeps i j (three a lx mx ux i)) b ly my uy j yl
-      ∙ (λ t. three b (line-of (b - 1) ly t) (line-of b my t) (line-of (b + 1) uy t) j)
+      neighbours-inside (λ j w. F i j (neighbours a lx mx ux i) w) (λ j. y-keeps i j (neighbours a lx mx ux i)) b ly my uy j yl
+      ∙ (λ t. neighbours b (line-of (b - 1) ly t) (line-of b my t) (line-of (b + 1) uy t) j)
     where
-      line-of : (j : ℕ) (w : ℤ) → F i j (three a lx mx ux i) w ≡ three a (F (a - 1) j lx w) (F a j mx w) (F (a + 1) j ux w) i
-      line-of j w = three-inside (λ i v. F i j v w) (λ i. x-keeps i j w) a lx mx ux i xl
+      line-of : (j : ℕ) (w : ℤ) → F i j (neighbours a lx mx ux i) w ≡ neighbours a (F (a - 1) j lx w) (F a j mx w) (F (a + 1) j ux w) i
+      line-of j w = neighbours-inside (λ i v. F i j v w) (λ i. x-keeps i j w) a lx mx ux i xl
 
-  pub block-plus : (l l1 l2 l3 : List ℤ) → length l ≡ nx * ny → l1 ≡ addRow l (b * nx + a - nx) (F (a - 1) (b - 1) lx ly) (F a (b - 1) mx ly) (F (a + 1) (b - 1) ux ly) → l2 ≡ addRow l1 (b * nx + a) (F (a - 1) b lx my) (F a b mx my) (F (a + 1) b ux my) → l3 ≡ addRow l2 (b * nx + a + nx) (F (a - 1) (b + 1) lx uy) (F a (b + 1) mx uy) (F (a + 1) (b + 1) ux uy) → l3 ≡ plus nx ny l (λ i j. F i j (three a lx mx ux i) (three b ly my uy j))
+  pub block-plus : (l l1 l2 l3 : List ℤ) → length l ≡ nx * ny → l1 ≡ addRow l (b * nx + a - nx) (F (a - 1) (b - 1) lx ly) (F a (b - 1) mx ly) (F (a + 1) (b - 1) ux ly) → l2 ≡ addRow l1 (b * nx + a) (F (a - 1) b lx my) (F a b mx my) (F (a + 1) b ux my) → l3 ≡ addRow l2 (b * nx + a + nx) (F (a - 1) (b + 1) lx uy) (F a (b + 1) mx uy) (F (a + 1) (b + 1) ux uy) → l3 ≡ plus nx ny l (λ i j. F i j (neighbours a lx mx ux i) (neighbours b ly my uy j))
   unfolding shares
   block-plus l l1 l2 l3 e e1 e2 e3 =
-      plus-from nx ny l l3 (λ i j. F i j (three a lx mx ux i) (three b ly my uy j)) long-3
+      plus-from nx ny l l3 (λ i j. F i j (neighbours a lx mx ux i) (neighbours b ly my uy j)) long-3
       (λ n h.
       ap (λ m. getD m n (pos 0)) at-3 ∙ row-added nx ny a xl xh l2 (b + 1) _ _ _ long-2 yh n
       ∙ ap (λ z. z +ℤ spot (b + 1) (shares (b + 1) uy (n % nx)) (n / nx))

@@ -1,11 +1,11 @@
 -- Adding at one cell and at three neighbours.
---     spot, three            what is added at each place by one addition, and by three at neighbours
+--     spot, three-spots      what is added at each place by one addition, and by three at neighbours
 --     added-at, added-row    what stands at each place afterwards
 --     cells-at, cells-row    a bound on every cell, before and after
 --     masses-at, masses-row  the same of masses, read as integers
 -- Assumes nothing.
 use mathlib.Core.Path.{_≡_, refl, sym, ap, ap₂, _∙_}
-use mathlib.Core.Bool.{Bool, true, false, cond}
+use mathlib.Core.Bool.{cond}
 use mathlib.Core.List.{List, [], _∷_, map}
 use Prim.Native.Nat.{ℕ, zero, suc, _+_, _-_, _<_, _≤_, zero-le}
 use native.Mathlib.Omega.{arith}
@@ -13,8 +13,9 @@ use lib.Dec.{eqb}
 use lib.ListN.{length, getD, set, length-set, List·getD-map}
 use lib.Seq.{getD-set-same, getD-set-other}
 use lib.IntN.{ℤ, pos, _+ℤ_, +ℤ-idr, +ℤ-idl, +ℤ-assoc}
-use borrow.Author.Tests.{eqb-true, eqb-false, eq-eqb, ne-eqb}
+use borrow.Author.Tests.{eq-eqb, ne-eqb}
 use Rattle.arith.specs.Size.{Bound, bound-sum, bound-widen}
+use Rattle.arith.specs.Neighbours.{neighbours, Place, place, lower, nearest, upper, far, by-place, at-lower, at-nearest, at-upper, at-far}
 use Rattle.grid_cells.specs.Cells.{addAt, addRow, addMassAt, addMassRow, Cells}
 
 -- ---- one cell
@@ -30,14 +31,6 @@ spot-here k v m e = rw (eq-eqb m k e)
 pub spot-else : (k : ℕ) (v : ℤ) (m : ℕ) → (m ≡ k → ⊥) → spot k v m ≡ pos 0
 unfolding spot
 spot-else k v m n = rw (ne-eqb m k n)
-
--- a place is k or is not
-pub by-place : (m k : ℕ) (P : Type 0) → (m ≡ k → P) → ((m ≡ k → ⊥) → P) → P
-by-place m k P here else = go (eqb m k) refl
-  where
-    go : (b : Bool) → eqb m k ≡ b → P
-    go true e = here (eqb-true m k e)
-    go false e = else (eqb-false m k e)
 
 pub spot-bound : (k : ℕ) (v : ℤ) (m n : ℕ) → Bound v n → Bound (spot k v m) n
 spot-bound k v m n b =
@@ -67,86 +60,29 @@ cells-widen h c = record { cell = λ k. bound-widen h (c .cell k) }
 
 -- ---- three neighbours
 
--- u, v and w at the three neighbours around place c, and 0 elsewhere
-unfoldable pub three : ℕ → ℤ → ℤ → ℤ → ℕ → ℤ
-three c u v w i = cond (eqb (i + 1) c) u (cond (eqb i c) v (cond (eqb i (c + 1)) w (pos 0)))
-
--- a place's part in the three
-pub data Place (c i : ℕ) : Type 0 where
-  lower : i + 1 ≡ c → Place c i
-  nearest : i ≡ c → Place c i
-  upper : i ≡ c + 1 → Place c i
-  far : (i + 1 ≡ c → ⊥) → (i ≡ c → ⊥) → (i ≡ c + 1 → ⊥) → Place c i
-
-pub place : (c i : ℕ) → Place c i
-place c i =
-    by-place (i + 1) c (Place c i) lower
-    (λ a. by-place i c (Place c i) nearest (λ b. by-place i (c + 1) (Place c i) upper (λ d. far a b d)))
-
-module _ (c : ℕ) (u v w : ℤ) (i : ℕ) where
-  pub three-lower : i + 1 ≡ c → three c u v w i ≡ u
-  unfolding three
-  three-lower e = rw (eq-eqb (i + 1) c e)
-
-  pub three-nearest : i ≡ c → three c u v w i ≡ v
-  unfolding three
-  three-nearest e = rw (ne-eqb (i + 1) c (λ f. omega arith), eq-eqb i c e)
-
-  pub three-upper : i ≡ c + 1 → three c u v w i ≡ w
-  unfolding three
-  three-upper e = rw (ne-eqb (i + 1) c (λ f. omega arith), ne-eqb i c (λ f. omega arith), eq-eqb i (c + 1) e)
-
-  pub three-far : (i + 1 ≡ c → ⊥) → (i ≡ c → ⊥) → (i ≡ c + 1 → ⊥) → three c u v w i ≡ pos 0
-  unfolding three
-  three-far a b d = rw (ne-eqb (i + 1) c a, ne-eqb i c b, ne-eqb i (c + 1) d)
-
 -- the three are one addition each
-pub three-spots : (c : ℕ) (u v w : ℤ) (i : ℕ) → 1 ≤ c → spot (c - 1) u i +ℤ spot c v i +ℤ spot (c + 1) w i ≡ three c u v w i
+pub three-spots : (c : ℕ) (u v w : ℤ) (i : ℕ) → 1 ≤ c → spot (c - 1) u i +ℤ spot c v i +ℤ spot (c + 1) w i ≡ neighbours c u v w i
 three-spots c u v w i h = go (place c i)
   where
     sum : (x y z : ℤ) → spot (c - 1) u i ≡ x → spot c v i ≡ y → spot (c + 1) w i ≡ z → spot (c - 1) u i +ℤ spot c v i +ℤ spot (c + 1) w i ≡ x +ℤ y +ℤ z
     sum x y z p q r = ap₂ _+ℤ_ (ap₂ _+ℤ_ p q) r
 
-    go : Place c i → spot (c - 1) u i +ℤ spot c v i +ℤ spot (c + 1) w i ≡ three c u v w i
+    go : Place c i → spot (c - 1) u i +ℤ spot c v i +ℤ spot (c + 1) w i ≡ neighbours c u v w i
     go (lower e) =
         sum u (pos 0) (pos 0) (spot-here (c - 1) u i (omega arith)) (spot-else c v i (λ f. omega arith)) (spot-else (c + 1) w i (λ f. omega arith))
         ∙ +ℤ-idr (u +ℤ pos 0) ∙ +ℤ-idr u
-        ∙ sym (three-lower c u v w i e)
+        ∙ sym (at-lower c u v w i e)
     go (nearest e) =
         sum (pos 0) v (pos 0) (spot-else (c - 1) u i (λ f. omega arith)) (spot-here c v i e) (spot-else (c + 1) w i (λ f. omega arith))
         ∙ +ℤ-idr (pos 0 +ℤ v) ∙ +ℤ-idl v
-        ∙ sym (three-nearest c u v w i e)
+        ∙ sym (at-nearest c u v w i e)
     go (upper e) =
         sum (pos 0) (pos 0) w (spot-else (c - 1) u i (λ f. omega arith)) (spot-else c v i (λ f. omega arith)) (spot-here (c + 1) w i e)
         ∙ +ℤ-idl w
-        ∙ sym (three-upper c u v w i e)
+        ∙ sym (at-upper c u v w i e)
     go (far a b d) =
         sum (pos 0) (pos 0) (pos 0) (spot-else (c - 1) u i (λ f. a (omega arith))) (spot-else c v i b) (spot-else (c + 1) w i d)
-        ∙ sym (three-far c u v w i a b d)
-
--- what keeps 0 may go inside
-pub three-inside : (f : ℕ → ℤ → ℤ) → ((i : ℕ) → f i (pos 0) ≡ pos 0) → (c : ℕ) (u v w : ℤ) (i : ℕ) → 1 ≤ c → f i (three c u v w i) ≡ three c (f (c - 1) u) (f c v) (f (c + 1) w) i
-three-inside f keeps c u v w i h = go (place c i)
-  where
-    go : Place c i → f i (three c u v w i) ≡ three c (f (c - 1) u) (f c v) (f (c + 1) w) i
-    go (lower e) =
-        ap₂ f (before e) (three-lower c u v w i e) ∙ sym (three-lower c (f (c - 1) u) (f c v) (f (c + 1) w) i e)
-      where
-        before : i + 1 ≡ c → i ≡ c - 1
-        before e = omega arith
-    go (nearest e) = ap₂ f e (three-nearest c u v w i e) ∙ sym (three-nearest c (f (c - 1) u) (f c v) (f (c + 1) w) i e)
-    go (upper e) = ap₂ f e (three-upper c u v w i e) ∙ sym (three-upper c (f (c - 1) u) (f c v) (f (c + 1) w) i e)
-    go (far a b d) =
-        ap (f i) (three-far c u v w i a b d) ∙ keeps i ∙ sym (three-far c (f (c - 1) u) (f c v) (f (c + 1) w) i a b d)
-
-pub three-bound : (c : ℕ) (u v w : ℤ) (i n : ℕ) → Bound u n → Bound v n → Bound w n → Bound (three c u v w i) n
-three-bound c u v w i n p q r = go (place c i)
-  where
-    go : Place c i → Bound (three c u v w i) n
-    go (lower e) = rw (three-lower c u v w i e) p
-    go (nearest e) = rw (three-nearest c u v w i e) q
-    go (upper e) = rw (three-upper c u v w i e) r
-    go (far a b d) = rw (three-far c u v w i a b d) (record { size = zero-le })
+        ∙ sym (at-far c u v w i a b d)
 
 -- ---- a row
 

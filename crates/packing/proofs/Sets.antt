@@ -1,31 +1,40 @@
 -- Particle sets on their way in and out.
 --     particlesIn-accepted           the records of an accepted set hold its particles
---     unpacked-accepted              an accepted set, unpacked, is an array that holds it
---     records-back                   packing what was unpacked gives the set back, and records-unpacked the other way round
---     unpacked-set                   particles within a set's limits, unpacked, are an array that holds them
 --     count-in, in-at, part-is       the particles in records, one by one
---     count-of, particle-at          the particles of an array, one by one
+--     narrow                         a record's mass and place are numbers of 16 bits with sign
+--     unpacked-accepted              an accepted set, unpacked, is an array that holds it
+--     set-length                     its records are not too many
+--     packed-back                    packing what was unpacked gives the set back
+--     named                          a particle under another identifier has the same numbers, and is as valid
+--     packable-at                    the particles of an array, one by one
+--     Packed, packed-start, packed-next, packed-end
+--                                    the loop of `pack_set`: the first k records are written, and the others as they were
 -- Assumes nothing.
-use mathlib.Core.Path.{_≡_, sym, ap, ap₂, _∙_, subst}
+use mathlib.Core.Path.{_≡_, refl, sym, ap, ap₂, _∙_, subst}
 use mathlib.Core.List.{List, _∷_, map}
-use Prim.Native.Nat.{ℕ, zero, suc, _+_, _-_, _*_, _/_, _<_}
+use Prim.Native.Nat.{ℕ, zero, suc, _+_, _-_, _*_, _/_, _<_, _≤_}
 use native.Mathlib.Nat.{zero-add}
 use native.Mathlib.Omega.{arith}
-use lib.ListN.{length, getD, take, drop}
+use lib.ListN.{length, getD, take, drop, List·getD-map}
+use lib.Seq.{drop-drop}
 use lib.IntN.{ℤ}
 use Rattle.refusal.specs.Refused.{result}
 use Rattle.refusal.proofs.Answers.{same-result}
 use Rattle.arith.specs.Sums.{from}
 use Rattle.particle.specs.declared.Particle.{Particle}
-use Rattle.particle.proofs.RoundTrip.{read-held}
-use Rattle.apic.specs.Limits.{SetLimits}
-use Rattle.particles.specs.Set.{recordAt, recordCount, recordsOf, setFrom, setAnswer, particleIn, particlesIn}
-use Rattle.particles.proofs.Checks.{taken, entered}
-use Rattle.particles.proofs.Accepted.{accepted-limits, accepted-records, limits-accepted, particle-valid}
-use Rattle.unpacked.specs.Unpacked.{unpacked, particleAt, particlesOf, UnpackedSet}
-use Rattle.unpacked.proofs.Laws.{getD-tabulated, length-tabulated, particlesOf-unpacked, count, set-numbers-at, limits-at}
-use Rattle.packing.specs.Packing.{Packable}
-use Rattle.packing.specs.Internal.{ParticleAt}
+use Rattle.particle.specs.Layout.{recordLength}
+use Rattle.particle.specs.Layout as field
+use Rattle.particle.specs.Record.{particleOf, recordOf, Valid}
+use Rattle.particle.proofs.RoundTrip.{fields-hold, read-held, record-length}
+use Rattle.particles.specs.Set.{setLength, recordAt, recordCount, recordsOf, setFrom, setAnswer, particleIn, particlesIn}
+use Rattle.particles.proofs.Checks.{taken, entered, length-limits}
+use Rattle.particles.proofs.Accepted.{accepted-limits, accepted-records, particle-valid}
+use Rattle.unpacked.specs.Unpacked.{perParticle, unpacked, Holds, NumbersAt}
+use Rattle.arith.specs.Lists.{getD-tabulated, length-tabulated}
+use Rattle.unpacked.proofs.Laws.{length-unpacked, numbers-at, some-at, nobody}
+use Rattle.packing.specs.Packing.{Packable, Packs, identifiers}
+use Rattle.packing.specs.Internal.{placed, Narrow, PackableAt, PacksAt}
+use Rattle.packing.proofs.Filling.{Filled, record-parts, placed-length, placed-behind, filled-start, filled-next, filled-end}
 
 -- ---- the way in
 
@@ -59,40 +68,143 @@ part-is k bytes = ap₂ (λ n at. take n (drop at bytes)) (room (14 * k)) (sym (
     room : (a : ℕ) → a + 14 - a ≡ 14
     room a = omega arith
 
--- ---- the way out
-
-module _ (l : List ℤ) (p : Packable l) where
-  pub count-of : length l / 10 ≡ length (particlesOf l)
-  count-of = omega (arith, count (p .set))
-
-  pub particle-at : (k : ℕ) → k < length (particlesOf l) → ParticleAt l k
-  particle-at k h =
-      record {
-        inside = omega (arith, count (p .set));
-        numbers = set-numbers-at (p .set) k h;
-        valid = particle-valid (p .nx) (p .ny) (particleAt l k) (p .set .limits .sizes) (limits-at (p .set) k h);
-        identifier = limits-at (p .set) k h .identifier;
-      }
-
--- ---- both
-
-pub unpacked-set : (nx ny : ℕ) (ps : List Particle) → SetLimits nx ny ps → UnpackedSet nx ny (unpacked ps)
-unpacked-set nx ny ps s =
-    record {
-      is = ap unpacked (sym (particlesOf-unpacked ps));
-      limits = subst (SetLimits nx ny) (sym (particlesOf-unpacked ps)) s;
-    }
+pub narrow : (bytes : List ℕ) → Narrow (particleOf bytes)
+unfolding particleOf
+narrow bytes =
+    let holds = fields-hold bytes in
+    record { mass = omega (arith, holds field.mass); x = omega (arith, holds field.x); y = omega (arith, holds field.y) }
 
 module _ (nx ny : ℕ) (bytes : List ℕ) {ps : List Particle} (e : setAnswer nx ny bytes ≡ result ps) where
-  pub unpacked-accepted : UnpackedSet nx ny (unpacked (particlesIn bytes))
+  pub unpacked-accepted : Holds nx ny (unpacked (particlesIn bytes)) (particlesIn bytes)
   unpacked-accepted =
-      subst (λ qs. UnpackedSet nx ny (unpacked qs)) (sym (particlesIn-accepted nx ny bytes e))
-      (unpacked-set nx ny ps (accepted-limits nx ny bytes e))
+      subst (λ qs. Holds nx ny (unpacked qs) qs) (sym (particlesIn-accepted nx ny bytes e))
+      (record { is = refl; limits = accepted-limits nx ny bytes e })
 
-  pub records-back : ((i : ℕ) → getD bytes i 0 < 256) → recordsOf (particlesOf (unpacked (particlesIn bytes))) ≡ bytes
-  records-back small =
-      ap recordsOf (particlesOf-unpacked (particlesIn bytes) ∙ particlesIn-accepted nx ny bytes e)
+  pub set-length : length bytes ≤ setLength
+  set-length =
+      let l = length-limits (length bytes) (entered nx ny bytes e .whole) in
+      omega (arith, l .whole, l .count)
+
+  pub packed-back : ((i : ℕ) → getD bytes i 0 < 256) → {bytes′ : List ℕ} → Packs (unpacked (particlesIn bytes)) bytes bytes′ → bytes′ ≡ bytes
+  packed-back small p =
+      p (particlesIn bytes) refl refl
+      ∙ ap recordsOf (particlesIn-accepted nx ny bytes e)
       ∙ sym (accepted-records nx ny bytes small e)
 
-pub records-unpacked : (nx ny : ℕ) (ps : List Particle) → SetLimits nx ny ps → particlesIn (recordsOf ps) ≡ ps
-records-unpacked nx ny ps s = particlesIn-accepted nx ny (recordsOf ps) (limits-accepted nx ny ps s)
+-- ---- the way out
+
+-- the particle under another identifier
+abbrev pub named : ℕ → Particle → Particle
+named identifier p =
+    record {
+      identifier = identifier;
+      mass = p .mass;
+      x = p .x;
+      y = p .y;
+      vx = p .vx;
+      vy = p .vy;
+      bxx = p .bxx;
+      bxy = p .bxy;
+      byx = p .byx;
+      byy = p .byy;
+    }
+
+module _ (identifier : ℕ) where
+  pub named-at : {l : List ℤ} {k : ℕ} {p : Particle} → NumbersAt l k p → NumbersAt l k (named identifier p)
+  named-at n =
+      record {
+        mass = n .mass;
+        x = n .x;
+        y = n .y;
+        vx = n .vx;
+        vy = n .vy;
+        bxx = n .bxx;
+        bxy = n .bxy;
+        byx = n .byx;
+        byy = n .byy;
+      }
+
+  pub named-valid : {p : Particle} → Valid p → Valid (named identifier p)
+  named-valid v =
+      record {
+        mass-from = v .mass-from;
+        mass-to = v .mass-to;
+        vx-to = v .vx-to;
+        vy-to = v .vy-to;
+        bxx-to = v .bxx-to;
+        bxy-to = v .bxy-to;
+        byx-to = v .byx-to;
+        byy-to = v .byy-to;
+        x-to = v .x-to;
+        y-to = v .y-to;
+      }
+
+pub packable-at : {l : List ℤ} → Packable l → (k : ℕ) → k < length l / perParticle → PackableAt l k
+packable-at p k h =
+    let s = some-at (p .set) k h in
+    record {
+      readable = record { particle = s .particle; inside = s .holds .inside; numbers = s .holds .numbers };
+      valid = particle-valid (p .nx) (p .ny) (s .particle) (s .holds .sizes) (s .holds .limits);
+    }
+
+pub record Packed (l : List ℤ) (records₀ records : List ℕ) (k : ℕ) : Type 0 where
+  pub long : length records ≡ length records₀
+  pub behind : drop (recordLength * k) records ≡ drop (recordLength * k) records₀
+  pub done : (ps : List Particle) → l ≡ unpacked ps → identifiers ps ≡ identifiers (particlesIn records₀) → Filled recordLength recordsOf ps records k
+
+count-unpacked : (l : List ℤ) (ps : List Particle) → l ≡ unpacked ps → length l / perParticle ≡ length ps
+count-unpacked l ps is = omega (arith, ap length is ∙ length-unpacked ps)
+
+pub packed-start : {l : List ℤ} {records : List ℕ} → length records ≡ recordLength * (length l / perParticle) → Packed l records records 0
+packed-start {l} whole =
+    record {
+      long = refl;
+      behind = refl;
+      done = λ ps is same. filled-start record-parts (whole ∙ ap (λ n. recordLength * n) (count-unpacked l ps is));
+    }
+
+module _ {l : List ℤ} {records₀ records : List ℕ} {k : ℕ} (w : Packed l records₀ records k) where
+  -- the record that comes next is as it was
+  next-in : particleIn records k ≡ particleIn records₀ k
+  next-in = ap (λ r. particleOf (take recordLength r)) (at records ∙ w .behind ∙ sym (at records₀))
+    where
+      at : (r : List ℕ) → drop (0 + recordLength * k) r ≡ drop (recordLength * k) r
+      at r = ap (λ i. drop i r) (zero-add (recordLength * k))
+
+  pub packed-next : {records′ : List ℕ} → PackableAt l k → recordLength * k + recordLength ≤ length records → k < length l / perParticle → PacksAt l k records records′ → Packed l records₀ records′ (k + 1)
+  packed-next {records′} at room below packs =
+      let q = named (particleIn records k .identifier) (at .readable .particle) in
+      let e : records′ ≡ placed recordLength records k (recordOf q) = packs q (named-at (particleIn records k .identifier) (at .readable .numbers)) refl in
+      record {
+        long = ap length e ∙ placed-length recordLength k records (recordOf q) (record-length q) room ∙ w .long;
+        behind = ap (drop (recordLength * (k + 1))) e ∙ placed-behind recordLength k records (recordOf q) (record-length q) room ∙ further (w .behind);
+        done = λ ps is same.
+            let here = subst (λ n. k < n) (count-unpacked l ps is) below in
+            let p = getD ps k nobody in
+            filled-next record-parts (w .done ps is same) nobody here refl
+            (packs p (subst (λ m. NumbersAt m k p) (sym is) (numbers-at ps k nobody here)) (same-identifier ps same));
+      }
+    where
+      next : recordLength * (k + 1) ≡ recordLength * k + recordLength
+      next = omega arith
+
+      further : drop (recordLength * k) records ≡ drop (recordLength * k) records₀ → drop (recordLength * (k + 1)) records ≡ drop (recordLength * (k + 1)) records₀
+      further h =
+          ap (λ i. drop i records) next
+          ∙ sym (drop-drop recordLength (recordLength * k) records)
+          ∙ ap (drop recordLength) h
+          ∙ drop-drop recordLength (recordLength * k) records₀
+          ∙ ap (λ i. drop i records₀) (sym next)
+
+      inside : k < recordCount records₀
+      inside = omega (arith, w .long)
+
+      same-identifier : (ps : List Particle) → identifiers ps ≡ identifiers (particlesIn records₀) → getD ps k nobody .identifier ≡ particleIn records k .identifier
+      same-identifier ps same =
+          sym (List·getD-map (λ p. p .identifier) ps k nobody)
+          ∙ ap (λ l. getD l k 0) same
+          ∙ List·getD-map (λ p. p .identifier) (particlesIn records₀) k nobody
+          ∙ ap (λ p. p .identifier) (in-at records₀ k nobody inside ∙ sym next-in)
+
+  pub packed-end : length l / perParticle ≤ k → Packs l records₀ records
+  packed-end h ps is same = filled-end record-parts (w .done ps is same) (subst (λ n. n ≤ k) (count-unpacked l ps is) h)

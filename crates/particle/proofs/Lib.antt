@@ -1,11 +1,5 @@
 pub mod Example
-pub mod Fields
-pub mod Flags
-pub mod Parts
 pub mod RoundTrip
-pub mod Shifts
-pub mod Signed
-pub mod Stores
 pub mod Valid
 pub mod Words
 pub mod Writing

@@ -1,55 +1,70 @@
 -- Records read and write back bit for bit (demand 2).
 --     read-held         what a read that is not refused says of the bytes and of the particle
+--     fields-hold       what a field of a record holds it can hold
 --     record-of-read    the record of what was read is the bytes
 --     read-write        what was read can be written, and any buffer of the length then holds the bytes
 --     read-of-record    the record of a particle that can be written reads as the particle; `read-of-valid` says so of a valid one
 --     write-read        after a write that is not refused, the buffer reads as the particle
---     record-length, record-small    a record has 14 elements, each below 256
+--     record-length, record-small    a record has `recordLength` elements, each below 256
 -- Assumes nothing.
 use Prim.Native.Nat.{ℕ, _<_}
-use native.Mathlib.Nat.{mod-eq-of-lt}
 use native.Mathlib.Omega.{arith}
 use mathlib.Core.Path.{_≡_, refl, sym, ap, subst, _∙_}
-use mathlib.Core.Bool.{Bool, true, false, not, _||_}
-use mathlib.Core.List.{List, [], _∷_}
-use borrow.Author.Tests.{eq-eqb, ne-eqb, eqb-true, eqb-false}
+use mathlib.Core.Bool.{Bool, true, false, _||_}
+use mathlib.Core.List.{List}
+use borrow.Author.Tests.{eq-eqb, ne-eqb, eqb-false}
 use lib.Dec.{eqb}
 use lib.IntN.{pos, negℤ, natAbs}
 use lib.ListN.{length, getD, replicate}
-use Rattle.refusal.specs.Refused.{result, refuseIf}
+use Rattle.refusal.specs.Refused.{result}
+use Rattle.refusal.proofs.Answers.{same-result, passed, length-passed}
+use Rattle.limits.specs.Limits.{isℤ}
+use Rattle.limits.proofs.Within.{above-lowest, size}
+use Rattle.bits.specs.Internal.{Below}
+use Rattle.bits.specs.Layout.{byteWidths, partsOf}
+use Rattle.bits.proofs.Layouts.{CanHold, Proper, fieldOf, filled-length, filled-small, held-holds, packed-held, held-packed}
+use Rattle.bits.proofs.Parts.{bytes-below}
+use Rattle.bits.proofs.TwosComplement.{mag-le}
 use Rattle.particle.specs.declared.Particle.{Particle}
-use Rattle.particle.specs.Bits.{cut, join, widths, residue, valueOf}
-use Rattle.particle.specs.Internal.{Below}
-use Rattle.particle.specs.Layout.{layout, byteWidths, recordLength, is, held, identifier, mass, x, y, vx, vy, Bxx, Bxy, Byx, Byy}
-use Rattle.particle.specs.Record.{particleOf, recordOf, isℤ, lowestVelocity, lowestAffine, readParticle, readAnswer, writeParticle, writeAnswer, written, Valid}
-use Rattle.particle.proofs.Parts.{join-cut, join-lt, cut-join, cut-below, bytes-below, below-bytes}
-use Rattle.particle.proofs.Signed.{mag-le, decoded-residue, residue-decoded, residue-lt, above-lowest, size, decoded-mag}
-use Rattle.particle.proofs.Valid.{write-valid, valid-write, never}
+use Rattle.particle.specs.Layout.{Name, identifier, mass, x, y, vx, vy, Bxx, Bxy, Byx, Byy, layout, recordLength, held}
+use Rattle.particle.specs.Record.{particleOf, valueIn, recordOf, lowestVelocity, lowestAffine, readParticle, readAnswer, writeParticle, writeAnswer, written, Valid}
+use Rattle.particle.proofs.Valid.{write-valid, valid-write}
 use Rattle.particle.proofs.Writing.{after, judged, allowed}
 
 -- ---- a record's length and bytes
 
 pub record-length : (p : Particle) → length (recordOf p) ≡ recordLength
 unfolding recordOf
-record-length p = refl
+record-length p = filled-length layout (partsOf layout (valueIn p))
 
 pub record-small : (p : Particle) (k : ℕ) → getD (recordOf p) k 0 < 256
 unfolding recordOf
-record-small p k = below-bytes recordLength (recordOf p) (cut-below byteWidths _) k
+record-small p k = filled-small layout (partsOf layout (valueIn p)) k
 
 -- ---- reading
 
--- checks that end in a result: none of them refused
-none : (l m v b : Bool) (k : ℕ) {p q : Particle} → refuseIf (not l) 1 0 (refuseIf m 4 k (refuseIf v 5 k (refuseIf b 6 k (result q)))) ≡ result p → (l ≡ true) × (m ≡ false) × (v ≡ false) × (b ≡ false) × (q ≡ p)
-none false m v b k e = absurd (never e)
-none true true v b k e = absurd (never e)
-none true false true b k e = absurd (never e)
-none true false false true k e = absurd (never e)
-none true false false false k e = (refl, refl, refl, refl, cc)
+proper : Proper layout
+proper = record { whole = refl; distinct-names = tt; each-named = named }
+  where
+    named : (a : Name) → fieldOf layout a .name ≡ a
+    named identifier = refl
+    named mass = refl
+    named x = refl
+    named y = refl
+    named vx = refl
+    named vy = refl
+    named Bxx = refl
+    named Bxy = refl
+    named Byx = refl
+    named Byy = refl
 
 neither : (a b : Bool) → (a || b) ≡ false → (a ≡ false) × (b ≡ false)
 neither false b e = (refl, e)
 neither true b e = absurd (let z : _≡_ {A = Bool} true false = e in let o : _≡_ {A = ℕ} 0 1 = cc in omega arith)
+
+-- what each field of a record can hold
+pub fields-hold : (bytes : List ℕ) (a : Name) → CanHold layout a (held a bytes)
+fields-hold = held-holds proper
 
 pub record Held (bytes : List ℕ) (p : Particle) : Type 0 where
   pub long : length bytes ≡ recordLength
@@ -63,59 +78,53 @@ read-held k bytes p e =
     let q = particleOf bytes in
     let first : Bool = isℤ (negℤ (pos 2048)) (q .bxx) || isℤ (negℤ (pos 2048)) (q .bxy) in
     let second : Bool = isℤ (negℤ (pos 2048)) (q .byx) || isℤ (negℤ (pos 2048)) (q .byy) in
-    let t = none (eqb (length bytes) recordLength) (eqb (q .mass) 0) (lowestVelocity q) (lowestAffine q) k e in
-    let v = neither (isℤ (negℤ (pos 64)) (q .vx)) (isℤ (negℤ (pos 64)) (q .vy)) (t .2) in
-    let b = neither first second (t .3) in
+    let long = length-passed (length bytes) recordLength _ e in
+    let massive = passed (eqb (q .mass) 0) 4 k _ (long .1) in
+    let slow = passed (lowestVelocity q) 5 k _ (massive .1) in
+    let flat = passed (lowestAffine q) 6 k _ (slow .1) in
+    let same : q ≡ p = same-result (flat .1) in
+    let v = neither (isℤ (negℤ (pos 64)) (q .vx)) (isℤ (negℤ (pos 64)) (q .vy)) (slow .0) in
+    let b = neither first second (flat .0) in
     let b₁ = neither (isℤ (negℤ (pos 2048)) (q .bxx)) (isℤ (negℤ (pos 2048)) (q .bxy)) (b .0) in
     let b₂ = neither (isℤ (negℤ (pos 2048)) (q .byx)) (isℤ (negℤ (pos 2048)) (q .byy)) (b .1) in
-    let d = cut-below (widths layout) (join byteWidths bytes) in
+    let d = fields-hold bytes in
     let valid : Valid q =
     record {
-      mass-from = omega (arith, eqb-false (q .mass) 0 (t .1));
-      mass-to = omega (arith, d .1 .0);
-      vx-to = omega (arith, size 64 (q .vx) (decoded-mag 64 _ (d .1 .1 .1 .1 .0)) (v .0));
-      vy-to = omega (arith, size 64 (q .vy) (decoded-mag 64 _ (d .1 .1 .1 .1 .1 .0)) (v .1));
-      bxx-to = omega (arith, size 2048 (q .bxx) (decoded-mag 2048 _ (d .1 .1 .1 .1 .1 .1 .0)) (b₁ .0));
-      bxy-to = omega (arith, size 2048 (q .bxy) (decoded-mag 2048 _ (d .1 .1 .1 .1 .1 .1 .1 .0)) (b₁ .1));
-      byx-to = omega (arith, size 2048 (q .byx) (decoded-mag 2048 _ (d .1 .1 .1 .1 .1 .1 .1 .1 .0)) (b₂ .0));
-      byy-to = omega (arith, size 2048 (q .byy) (decoded-mag 2048 _ (d .1 .1 .1 .1 .1 .1 .1 .1 .1 .0)) (b₂ .1));
-      x-to = omega (arith, d .1 .1 .0);
-      y-to = omega (arith, d .1 .1 .1 .0);
+      mass-from = omega (arith, eqb-false (q .mass) 0 (massive .0));
+      mass-to = omega (arith, d mass);
+      vx-to = omega (arith, size 64 (q .vx) (d vx) (v .0));
+      vy-to = omega (arith, size 64 (q .vy) (d vy) (v .1));
+      bxx-to = omega (arith, size 2048 (q .bxx) (d Bxx) (b₁ .0));
+      bxy-to = omega (arith, size 2048 (q .bxy) (d Bxy) (b₁ .1));
+      byx-to = omega (arith, size 2048 (q .byx) (d Byx) (b₂ .0));
+      byy-to = omega (arith, size 2048 (q .byy) (d Byy) (b₂ .1));
+      x-to = omega (arith, d x);
+      y-to = omega (arith, d y);
     } in
     record {
-      long = eqb-true (length bytes) recordLength (t .0);
-      holds = t .4;
-      valid = subst Valid (t .4) valid;
-      identifier-below = subst (λ r. r .identifier < 65536) (t .4) (d .0);
+      long = long .0;
+      holds = same;
+      valid = subst Valid same valid;
+      identifier-below = subst (λ r. r .identifier < 65536) same (d identifier);
     }
 
 -- ---- read, then write
 
--- a number that bytes make has no more bits than their widths
-whole : (bytes : List ℕ) → Below byteWidths bytes → join (widths layout) (cut (widths layout) (join byteWidths bytes)) ≡ join byteWidths bytes
-whole bytes b = join-cut (widths layout) (join byteWidths bytes) ∙ mod-eq-of-lt (join-lt byteWidths bytes b)
-
--- the parts of the fields that were read are the parts that were cut
-record-of-held : (bytes : List ℕ) → Below byteWidths bytes → recordOf (particleOf bytes) ≡ bytes
+record-of-held : (bytes : List ℕ) → Below (byteWidths layout) bytes → recordOf (particleOf bytes) ≡ bytes
 unfolding recordOf particleOf
-record-of-held bytes b =
-    let n = join byteWidths bytes in
-    let d = cut-below (widths layout) n in
-    ap (λ ds. cut byteWidths (join (widths layout) ds))
-    (λ i.
-    natAbs (held identifier bytes)
-    ∷ natAbs (held mass bytes)
-    ∷ natAbs (held x bytes)
-    ∷ natAbs (held y bytes)
-    ∷ residue-decoded 64 _ (d .1 .1 .1 .1 .0) i
-    ∷ residue-decoded 64 _ (d .1 .1 .1 .1 .1 .0) i
-    ∷ residue-decoded 2048 _ (d .1 .1 .1 .1 .1 .1 .0) i
-    ∷ residue-decoded 2048 _ (d .1 .1 .1 .1 .1 .1 .1 .0) i
-    ∷ residue-decoded 2048 _ (d .1 .1 .1 .1 .1 .1 .1 .1 .0) i
-    ∷ residue-decoded 2048 _ (d .1 .1 .1 .1 .1 .1 .1 .1 .1 .0) i
-    ∷ [])
-    ∙ ap (cut byteWidths) (whole bytes b)
-    ∙ cut-join byteWidths bytes b
+record-of-held bytes b = packed-held proper bytes (valueIn (particleOf bytes)) b same
+  where
+    same : (a : Name) → valueIn (particleOf bytes) a ≡ held a bytes
+    same identifier = refl
+    same mass = refl
+    same x = refl
+    same y = refl
+    same vx = refl
+    same vy = refl
+    same Bxx = refl
+    same Bxy = refl
+    same Byx = refl
+    same Byy = refl
 
 module _ (k : ℕ) (bytes : List ℕ) (p : Particle) (small : (i : ℕ) → getD bytes i 0 < 256) (found : readAnswer k bytes ≡ result p) where
   pub record-of-read : recordOf p ≡ bytes
@@ -132,76 +141,34 @@ module _ (k : ℕ) (bytes : List ℕ) (p : Particle) (small : (i : ℕ) → getD
 -- ---- write, then read
 
 module _ (p : Particle) (fits : p .identifier < 65536) (valid : Valid p) where
-  abbrev parts : List ℕ
-  parts =
-      p .identifier
-      ∷ p .mass
-      ∷ p .x
-      ∷ p .y
-      ∷ residue 128 (p .vx)
-      ∷ residue 128 (p .vy)
-      ∷ residue 4096 (p .bxx)
-      ∷ residue 4096 (p .bxy)
-      ∷ residue 4096 (p .byx)
-      ∷ residue 4096 (p .byy)
-      ∷ []
-
-  below : Below (widths layout) parts
-  below = (
-    fits,
-    (
-      omega (arith, valid .mass-to),
-      (
-        omega (arith, valid .x-to),
-        (
-          omega (arith, valid .y-to),
-          (
-            residue-lt 128 (p .vx) (omega (arith, mag-le (p .vx), valid .vx-to)),
-            (
-              residue-lt 128 (p .vy) (omega (arith, mag-le (p .vy), valid .vy-to)),
-              (
-                residue-lt 4096 (p .bxx) (omega (arith, mag-le (p .bxx), valid .bxx-to)),
-                (
-                  residue-lt 4096 (p .bxy) (omega (arith, mag-le (p .bxy), valid .bxy-to)),
-                  (
-                    residue-lt 4096 (p .byx) (omega (arith, mag-le (p .byx), valid .byx-to)),
-                    (
-                      residue-lt 4096 (p .byy) (omega (arith, mag-le (p .byy), valid .byy-to)),
-                      tt,
-                    ),
-                  ),
-                ),
-              ),
-            ),
-          ),
-        ),
-      ),
-    ),
-  )
-
-  -- the parts that are cut are the parts that were joined
-  recut : cut (widths layout) (join byteWidths (recordOf p)) ≡ parts
-  unfolding recordOf
-  recut =
-      let n = join (widths layout) parts in
-      ap (cut (widths layout)) (join-cut byteWidths n ∙ mod-eq-of-lt (join-lt (widths layout) parts below))
-      ∙ cut-join (widths layout) parts below
+  holds : (a : Name) → CanHold layout a (valueIn p a)
+  holds identifier = fits
+  holds mass = omega (arith, valid .mass-to)
+  holds x = omega (arith, valid .x-to)
+  holds y = omega (arith, valid .y-to)
+  holds vx = omega (arith, mag-le (p .vx), valid .vx-to)
+  holds vy = omega (arith, mag-le (p .vy), valid .vy-to)
+  holds Bxx = omega (arith, mag-le (p .bxx), valid .bxx-to)
+  holds Bxy = omega (arith, mag-le (p .bxy), valid .bxy-to)
+  holds Byx = omega (arith, mag-le (p .byx), valid .byx-to)
+  holds Byy = omega (arith, mag-le (p .byy), valid .byy-to)
 
   pub particle-of-record : particleOf (recordOf p) ≡ p
-  unfolding particleOf
+  unfolding particleOf recordOf
   particle-of-record =
+      let again : (a : Name) → held a (recordOf p) ≡ valueIn p a = held-packed proper (valueIn p) holds in
       λ i.
       record {
-        identifier = natAbs (valueOf (is identifier) layout (recut i));
-        mass = natAbs (valueOf (is mass) layout (recut i));
-        x = natAbs (valueOf (is x) layout (recut i));
-        y = natAbs (valueOf (is y) layout (recut i));
-        vx = (ap (valueOf (is vx) layout) recut ∙ decoded-residue 64 (p .vx) (omega (arith, mag-le (p .vx), valid .vx-to))) i;
-        vy = (ap (valueOf (is vy) layout) recut ∙ decoded-residue 64 (p .vy) (omega (arith, mag-le (p .vy), valid .vy-to))) i;
-        bxx = (ap (valueOf (is Bxx) layout) recut ∙ decoded-residue 2048 (p .bxx) (omega (arith, mag-le (p .bxx), valid .bxx-to))) i;
-        bxy = (ap (valueOf (is Bxy) layout) recut ∙ decoded-residue 2048 (p .bxy) (omega (arith, mag-le (p .bxy), valid .bxy-to))) i;
-        byx = (ap (valueOf (is Byx) layout) recut ∙ decoded-residue 2048 (p .byx) (omega (arith, mag-le (p .byx), valid .byx-to))) i;
-        byy = (ap (valueOf (is Byy) layout) recut ∙ decoded-residue 2048 (p .byy) (omega (arith, mag-le (p .byy), valid .byy-to))) i;
+        identifier = natAbs (again identifier i);
+        mass = natAbs (again mass i);
+        x = natAbs (again x i);
+        y = natAbs (again y i);
+        vx = again vx i;
+        vy = again vy i;
+        bxx = again Bxx i;
+        bxy = again Bxy i;
+        byx = again Byx i;
+        byy = again Byy i;
       }
 
   accepted : (k : ℕ) → readParticle k p ≡ result p

@@ -1,4 +1,2 @@
-pub mod Bits
-pub mod Internal
 pub mod Layout
 pub mod Record

@@ -2,18 +2,18 @@
 -- Assumes nothing.
 use Prim.Native.Nat.{ℕ, _≤_}
 use mathlib.Core.Bool.{Bool, not, _&&_, _||_}
-use mathlib.Core.List.{List}
-use lib.Dec.{eqb, leb}
+use mathlib.Core.List.{List, map}
+use lib.Dec.{eqb}
 use lib.IntN.{ℤ, pos, negℤ, natAbs}
-use lib.Signed.{leZ}
 use lib.ListN.{length}
 use Rattle.refusal.specs.Refused.{Answer, result, refusedBy, refuseIf, keptUnless}
+use Rattle.limits.specs.Limits.{leastMass, mostMass, mostVelocity, mostAffine, mostPosition, isℤ, validMass, validVelocity, validAffine, validPosition}
 use Rattle.particle.specs.declared.Particle.{Particle}
 use Rattle.particle.specs.declared.Read.{Read}
 use Rattle.particle.specs.declared.Read.the-variants as read
 use Rattle.particle.specs.declared.Written.{Written}
 use Rattle.particle.specs.declared.Written.the-variants as write
-use Rattle.particle.specs.Layout.{Name, identifier, mass, x, y, vx, vy, Bxx, Bxy, Byx, Byy, recordLength, held, packed}
+use Rattle.particle.specs.Layout.{Name, identifier, mass, x, y, vx, vy, Bxx, Bxy, Byx, Byy, recordLength, layout, held, packed}
 
 -- the particle that a record of the right length holds
 unfoldable pub particleOf : List ℕ → Particle
@@ -43,31 +43,15 @@ valueIn p Bxy = p .bxy
 valueIn p Byx = p .byx
 valueIn p Byy = p .byy
 
+-- the numbers of a particle, in the order of its record's fields
+abbrev pub numbers : Particle → List ℤ
+numbers p = map (λ f. valueIn p (f .name)) (layout .fields)
+
 -- the record that holds a particle
 unfoldable pub recordOf : Particle → List ℕ
 recordOf p = packed (valueIn p)
 
--- ---- the limits of "Records"
-
-abbrev pub between : ℤ → ℤ → ℤ → Bool
-between low high z = leZ low z && leZ z high
-
-abbrev pub validMass : ℕ → Bool
-validMass m = leb 1 m && leb m 1023
-
-abbrev pub validVelocity : ℤ → Bool
-validVelocity v = between (negℤ (pos 63)) (pos 63) v
-
-abbrev pub validAffine : ℤ → Bool
-validAffine b = between (negℤ (pos 2047)) (pos 2047) b
-
-abbrev pub validPosition : ℕ → Bool
-validPosition a = leb a 4095
-
 -- ---- "Read a record"
-
-abbrev pub isℤ : ℤ → ℤ → Bool
-isℤ k z = between k k z
 
 -- a velocity of −64
 abbrev pub lowestVelocity : Particle → Bool
@@ -87,7 +71,7 @@ readParticle index p =
     (refuseIf (lowestAffine p) 6 index
     (result p)))
 
--- 1 length not 14, and then the particle's; a refusal names the record with this index of its set
+-- 1 wrong length, and then the particle's; a refusal names the record with this index of its set
 unfoldable pub readAnswer : ℕ → List ℕ → Answer Particle
 readAnswer index bytes =
     refuseIf (not (eqb (length bytes) recordLength)) 1 0 (readParticle index (particleOf bytes))
@@ -118,18 +102,18 @@ writeParticle p =
 
 -- the same as facts
 pub record Valid (p : Particle) : Type 0 where
-  pub mass-from : 1 ≤ p .mass
-  pub mass-to : p .mass ≤ 1023
-  pub vx-to : natAbs (p .vx) ≤ 63
-  pub vy-to : natAbs (p .vy) ≤ 63
-  pub bxx-to : natAbs (p .bxx) ≤ 2047
-  pub bxy-to : natAbs (p .bxy) ≤ 2047
-  pub byx-to : natAbs (p .byx) ≤ 2047
-  pub byy-to : natAbs (p .byy) ≤ 2047
-  pub x-to : p .x ≤ 4095
-  pub y-to : p .y ≤ 4095
+  pub mass-from : leastMass ≤ p .mass
+  pub mass-to : p .mass ≤ mostMass
+  pub vx-to : natAbs (p .vx) ≤ mostVelocity
+  pub vy-to : natAbs (p .vy) ≤ mostVelocity
+  pub bxx-to : natAbs (p .bxx) ≤ mostAffine
+  pub bxy-to : natAbs (p .bxy) ≤ mostAffine
+  pub byx-to : natAbs (p .byx) ≤ mostAffine
+  pub byy-to : natAbs (p .byy) ≤ mostAffine
+  pub x-to : p .x ≤ mostPosition
+  pub y-to : p .y ≤ mostPosition
 
--- 1 length not 14, and then the particle's
+-- 1 wrong length, and then the particle's
 unfoldable pub writeAnswer : Particle → List ℕ → Answer Unit
 writeAnswer p bytes = refuseIf (not (eqb (length bytes) recordLength)) 1 0 (writeParticle p)
 

@@ -1,19 +1,26 @@
-// A particle record of 14 bytes: read and written, bit for bit.
-pub mod bits;
-pub mod limits;
-
+// A particle record: read and written, bit for bit.
 use refusal::Refusal;
 ghost use mathlib.Core.Path.{_≡_};
 ghost use mathlib.Core.List.{[], _∷_};
 ghost use lib.ListN.{length};
 ghost use Rattle.refusal.specs.Refused.{result};
-ghost use Rattle.particle.specs.Bits.{cut, join, widths};
-ghost use Rattle.particle.specs.Internal.{Below};
-ghost use Rattle.particle.specs.Layout.{layout, byteWidths, recordLength};
-ghost use Rattle.particle.specs.Record.{particleOf, recordOf, readParticle, readAnswer, toldRead, writeParticle, writeAnswer, written, toldWritten};
+ghost use Rattle.bits.specs.Internal.{Below};
+ghost use Rattle.bits.specs.Layout.{widths, filled};
+ghost use Rattle.particle.specs.Layout.{layout, recordLength};
+ghost use Rattle.particle.specs.Record.{particleOf, numbers, recordOf, readParticle, readAnswer, toldRead, writeParticle, writeAnswer, written, toldWritten};
 
 // The length of a particle record in bytes.
 pub const RECORD_LENGTH: usize = 14;
+
+// How many numbers a particle has.
+pub const NUMBERS: usize = 10;
+
+// The numbers that a record's fields can hold beside the valid ones.
+const NO_MASS: u16 = limits::LEAST_MASS - 1;
+
+const NO_VELOCITY: i16 = limits::LEAST_VELOCITY - 1;
+
+const NO_AFFINE: i16 = limits::LEAST_AFFINE - 1;
 
 pub struct Particle {
     pub identifier: u16,
@@ -60,20 +67,38 @@ pub fn unpack(bytes: &[u8]) -> Particle
     }
 }
 
+// The numbers of a particle, in the order of its record's fields.
+pub fn numbers_of(p: Particle) -> [i64; NUMBERS]
+    ensures { λ r. ⌜ r ≡ numbers p ⌝ }
+{
+    [
+        p.identifier as i64,
+        p.mass as i64,
+        p.x as i64,
+        p.y as i64,
+        p.vx as i64,
+        p.vy as i64,
+        p.bxx as i64,
+        p.bxy as i64,
+        p.byx as i64,
+        p.byy as i64,
+    ]
+}
+
 // The answer for a particle that was read from the record with this index. `read_indexed` calls it.
-fn accept(p: Particle, index: usize) -> Read
+fn check_read(p: Particle, index: usize) -> Read
     ensures { λ r. ⌜ toldRead r ≡ readParticle index p ⌝ }
 {
-    if p.mass == limits::NO_MASS {
+    if p.mass == NO_MASS {
         return Read::Refused(Refusal::Mass(index));
     }
-    if limits::one_is(p.vx, p.vy, limits::NO_VELOCITY) {
+    if limits::one_is(p.vx, p.vy, NO_VELOCITY) {
         return Read::Refused(Refusal::Velocity(index));
     }
-    if limits::one_is(p.bxx, p.bxy, limits::NO_AFFINE) {
+    if limits::one_is(p.bxx, p.bxy, NO_AFFINE) {
         return Read::Refused(Refusal::Affine(index));
     }
-    if limits::one_is(p.byx, p.byy, limits::NO_AFFINE) {
+    if limits::one_is(p.byx, p.byy, NO_AFFINE) {
         return Read::Refused(Refusal::Affine(index));
     }
     Read::Found(p)
@@ -87,7 +112,7 @@ pub fn read_indexed(bytes: &[u8], index: usize) -> Read
     if bytes.len() != RECORD_LENGTH {
         return Read::Refused(Refusal::Length);
     }
-    accept(unpack(bytes), index)
+    check_read(unpack(bytes), index)
 }
 
 // Read a record: any slice.
@@ -98,7 +123,7 @@ pub fn read_record(bytes: &[u8]) -> Read
 }
 
 // The answer for a particle that is to be written.
-fn allow(p: Particle) -> Written
+fn check_write(p: Particle) -> Written
     ensures { λ r. ⌜ toldWritten r ≡ writeParticle p ⌝ }
 {
     if !limits::mass_is_valid(p.mass) {
@@ -135,7 +160,7 @@ fn put(
     bytes: &mut [u8],
 )
     requires { ⌜ Below (widths layout) (identifier ∷ mass ∷ x ∷ y ∷ vx ∷ vy ∷ bxx ∷ bxy ∷ byx ∷ byy ∷ []) × (length (now bytes) ≡ recordLength) ⌝ }
-    ensures { λ _. ⌜ now (bytes .exit) ≡ cut byteWidths (join (widths layout) (identifier ∷ mass ∷ x ∷ y ∷ vx ∷ vy ∷ bxx ∷ bxy ∷ byx ∷ byy ∷ [])) ⌝ }
+    ensures { λ _. ⌜ now (bytes .exit) ≡ filled layout (identifier ∷ mass ∷ x ∷ y ∷ vx ∷ vy ∷ bxx ∷ bxy ∷ byx ∷ byy ∷ []) ⌝ }
 {
     let first = identifier as u64 * 281474976710656
         + mass as u64 * 274877906944
@@ -199,7 +224,7 @@ pub fn write_record(p: Particle, bytes: &mut [u8]) -> Written
     if bytes.len() != RECORD_LENGTH {
         return Written::Refused(Refusal::Length);
     }
-    let answer = allow(p);
+    let answer = check_write(p);
     match answer {
         Written::Refused(refusal) => Written::Refused(refusal),
         Written::Done => {

@@ -5,29 +5,30 @@
 --     limits-accepted      the records of particles that break no limit are accepted, as those particles
 -- Assumes nothing.
 use mathlib.Core.Path.{_≡_, refl, sym, ap, ap₂, _∙_, subst}
-use mathlib.Core.Bool.{Bool, true, false, not, _&&_}
-use mathlib.Core.List.{List, [], _∷_, _++_, append-assoc, append-nil}
+use mathlib.Core.Bool.{Bool, true, false}
+use mathlib.Core.List.{List, [], _∷_, _++_, append-assoc}
 use Prim.Native.Nat.{ℕ, zero, suc, _+_, _*_, _-_, _/_, _%_, _≤_, _<_, zero-le}
-use native.Mathlib.Nat.{add-assoc, zero-add}
+use native.Mathlib.Nat.{zero-add}
 use native.Mathlib.Omega.{arith}
-use native.Mathlib.Decide.{decLt}
-use lib.Dec.{T, leb, ltb, eqb, lit<, leb→le}
-use lib.ListN.{length, take, drop, getD, length-append, take-append-drop, drop-of-length-le, length-take, List·getD-eq-default}
-use lib.Seq.{drop-drop, getD-take, getD-drop, drop-at, take-at, length-take-le}
-use lib.IntN.{natAbs}
+use lib.Dec.{T, leb, leb→le}
+use lib.ListN.{length, take, drop, getD, length-append, take-append-drop, drop-of-length-le}
+use lib.Seq.{drop-drop, drop-at, take-at}
 use mir.Facts.{and-yes}
 use borrow.Author.Tests.{le-leb, le-ltb, eq-eqb}
-use Rattle.refusal.specs.Refused.{Answer, result, refuseIf, andThen}
+use Rattle.refusal.specs.Refused.{result, andThen}
 use Rattle.refusal.proofs.Answers.{same-result}
 use Rattle.arith.specs.Sums.{Each}
 use Rattle.spline.specs.Spline.{onAxis}
+use Rattle.limits.specs.Limits.{leastSide, mostSide, mostPosition, mostRecords, mostTotalMass}
+use Rattle.bits.proofs.Bytes.{small-part}
 use Rattle.particle.specs.declared.Particle.{Particle}
+use Rattle.particle.specs.Layout.{recordLength}
 use Rattle.particle.specs.Record.{readAnswer, recordOf, Valid}
-use Rattle.particle.proofs.RoundTrip.{Held, read-held, record-of-read, read-of-valid, record-length}
+use Rattle.particle.proofs.RoundTrip.{read-held, record-of-read, read-of-valid, record-length}
 use Rattle.apic.specs.Totals.{totalMass}
 use Rattle.apic.specs.Limits.{SizeLimits, ParticleLimits, Rising, SetLimits}
-use Rattle.particles.specs.Set.{validSize, validLength, recordAt, recordCount, recordsOf, onGrid, admitted, setFrom, setOf, setAnswer}
-use Rattle.particles.proofs.Checks.{Admits, Taken, taken, counted, Entered, entered, size-limits, length-limits}
+use Rattle.particles.specs.Set.{validSize, setLength, validLength, recordAt, recordCount, recordsOf, admitted, setFrom, setAnswer}
+use Rattle.particles.proofs.Checks.{Admits, taken, counted, entered, size-limits, length-limits}
 
 -- ---- no limit is broken
 
@@ -61,10 +62,10 @@ particle-limits nx ny least mass p v i a =
 record Within (nx ny least mass : ℕ) (ps : List Particle) : Type 0 where
   each : Each (ParticleLimits nx ny) ps
   rises : RisingFrom least ps
-  light : mass + totalMass ps ≤ 131072
+  light : mass + totalMass ps ≤ mostTotalMass
 
 module _ (nx ny start : ℕ) (bytes : List ℕ) where
-  walk-within : (left k least mass : ℕ) {ps : List Particle} → mass ≤ 131072 → setFrom nx ny start bytes left k least mass ≡ result ps → Within nx ny least mass ps
+  walk-within : (left k least mass : ℕ) {ps : List Particle} → mass ≤ mostTotalMass → setFrom nx ny start bytes left k least mass ≡ result ps → Within nx ny least mass ps
   unfolding setFrom RisingFrom
   walk-within zero k least mass m e =
       subst (Within nx ny least mass) (same-result e) (record { each = tt; rises = tt; light = omega arith })
@@ -79,7 +80,7 @@ module _ (nx ny start : ℕ) (bytes : List ℕ) where
         light = regroup mass (t .head .mass) (totalMass (t .tail)) (w .light);
       })
     where
-      regroup : (a b c : ℕ) → a + b + c ≤ 131072 → a + (b + c) ≤ 131072
+      regroup : (a b c : ℕ) → a + b + c ≤ mostTotalMass → a + (b + c) ≤ mostTotalMass
       regroup a b c h = omega arith
 
 pub accepted-limits : (nx ny : ℕ) (bytes : List ℕ) {ps : List Particle} → setAnswer nx ny bytes ≡ result ps → SetLimits nx ny ps
@@ -98,31 +99,21 @@ accepted-limits nx ny bytes {ps} e =
 
 -- ---- the bytes are the records
 
-pub small-part : (bytes : List ℕ) (n m : ℕ) → ((i : ℕ) → getD bytes i 0 < 256) → (i : ℕ) → getD (take n (drop m bytes)) i 0 < 256
-small-part bytes n m small i = go (decLt i n)
-  where
-    past : n ≤ i → length (take n (drop m bytes)) ≤ i
-    past h = omega (arith, length-take n (drop m bytes))
-
-    go : Dec (i < n) → getD (take n (drop m bytes)) i 0 < 256
-    go (yes h) = rw (getD-take n (drop m bytes) i 0 h, getD-drop m bytes i 0) (small (m + i))
-    go (no h) = rw (List·getD-eq-default (take n (drop m bytes)) 0 (past (omega arith))) (lit< tt)
-
 module _ (nx ny start : ℕ) (bytes : List ℕ) (small : (i : ℕ) → getD bytes i 0 < 256) where
-  walk-records : (left k least mass : ℕ) {ps : List Particle} → start + 14 * (k + left) ≡ length bytes → setFrom nx ny start bytes left k least mass ≡ result ps → drop (start + 14 * k) bytes ≡ recordsOf ps
+  walk-records : (left k least mass : ℕ) {ps : List Particle} → start + recordLength * (k + left) ≡ length bytes → setFrom nx ny start bytes left k least mass ≡ result ps → drop (start + recordLength * k) bytes ≡ recordsOf ps
   unfolding setFrom recordsOf
   walk-records zero k least mass n e =
-      let h : length bytes ≤ start + 14 * k = omega arith in
+      let h : length bytes ≤ start + recordLength * k = omega arith in
       drop-of-length-le bytes h ∙ ap recordsOf (same-result e)
   walk-records (suc left) k least mass n e =
       let t = taken nx ny start bytes left k least mass e in
-      let h : recordOf (t .head) ≡ recordAt start bytes k = record-of-read k (recordAt start bytes k) (t .head) (small-part bytes 14 (start + 14 * k) small) (t .read) in
+      let h : recordOf (t .head) ≡ recordAt start bytes k = record-of-read k (recordAt start bytes k) (t .head) (small-part bytes recordLength (start + recordLength * k) small) (t .read) in
       let w = walk-records left (suc k) (suc (t .head .identifier)) (mass + t .head .mass) (omega arith) (t .rest) in
-      sym (take-append-drop 14 (drop (start + 14 * k) bytes))
-      ∙ ap₂ _++_ (sym h) (drop-drop 14 (start + 14 * k) bytes ∙ ap (λ m. drop m bytes) (next k) ∙ w)
+      sym (take-append-drop recordLength (drop (start + recordLength * k) bytes))
+      ∙ ap₂ _++_ (sym h) (drop-drop recordLength (start + recordLength * k) bytes ∙ ap (λ m. drop m bytes) (next k) ∙ w)
       ∙ ap recordsOf (t .is)
     where
-      next : (k : ℕ) → start + 14 * k + 14 ≡ start + 14 * suc k
+      next : (k : ℕ) → start + recordLength * k + recordLength ≡ start + recordLength * suc k
       next k = omega arith
 
 pub accepted-records : (nx ny : ℕ) (bytes : List ℕ) {ps : List Particle} → ((i : ℕ) → getD bytes i 0 < 256) → setAnswer nx ny bytes ≡ result ps → bytes ≡ recordsOf ps
@@ -130,17 +121,17 @@ accepted-records nx ny bytes small e =
     let n = entered nx ny bytes e in
     walk-records nx ny 0 bytes small (recordCount bytes) 0 0 0 (all (length-limits (length bytes) (n .whole) .whole)) (n .set)
   where
-    all : 14 * (length bytes / 14) ≡ length bytes → 0 + 14 * (0 + length bytes / 14) ≡ length bytes
+    all : recordLength * (length bytes / recordLength) ≡ length bytes → 0 + recordLength * (0 + length bytes / recordLength) ≡ length bytes
     all h = omega arith
 
 -- ---- and back
 
-pub records-length : (ps : List Particle) → length (recordsOf ps) ≡ 14 * length ps
+pub records-length : (ps : List Particle) → length (recordsOf ps) ≡ recordLength * length ps
 unfolding recordsOf
 records-length [] = refl
 records-length (p ∷ ps) = length-append (recordOf p) (recordsOf ps) ∙ count (length (recordOf p)) (length (recordsOf ps)) (length ps) (record-length p) (records-length ps)
   where
-    count : (a b n : ℕ) → a ≡ 14 → b ≡ 14 * n → a + b ≡ 14 * suc n
+    count : (a b n : ℕ) → a ≡ recordLength → b ≡ recordLength * n → a + b ≡ recordLength * suc n
     count a b n h g = omega arith
 
 is-true : (b : Bool) → T b → b ≡ true
@@ -148,18 +139,18 @@ is-true true t = refl
 is-true false t = absurd t
 
 module _ (nx ny : ℕ) where
-  admits : (k least mass : ℕ) (p : Particle) → ParticleLimits nx ny p → least ≤ p .identifier → mass + p .mass ≤ 131072 → admitted nx ny k least mass p ≡ result p
+  admits : (k least mass : ℕ) (p : Particle) → ParticleLimits nx ny p → least ≤ p .identifier → mass + p .mass ≤ mostTotalMass → admitted nx ny k least mass p ≡ result p
   unfolding admitted
   admits k least mass p l h m =
       rw (
         is-true (onAxis nx (p .x)) (l .x-on),
         is-true (onAxis ny (p .y)) (l .y-on),
         le-ltb (p .identifier) least h,
-        le-ltb 131072 (mass + p .mass) m,
+        le-ltb mostTotalMass (mass + p .mass) m,
       )
 
-  -- a coordinate on an axis of at most 48 nodes fits its field
-  on-axis-most : (n x : ℕ) → n ≤ 48 → T (onAxis n x) → x ≤ 4095
+  -- a coordinate on an axis of at most mostSide nodes fits its field
+  on-axis-most : (n x : ℕ) → n ≤ mostSide → T (onAxis n x) → x ≤ mostPosition
   unfolding onAxis
   on-axis-most n x h t =
       let l = leb→le x (64 * (n - 1) - 33) (and-yes (leb 32 x) (leb x (64 * (n - 1) - 33)) t .1) in
@@ -180,11 +171,11 @@ module _ (nx ny : ℕ) where
         y-to = on-axis-most ny (p .y) (sizes .y-most) (l .y-on);
       }
 
-  first-record : (pre : List ℕ) (p : Particle) (rest : List ℕ) (start k : ℕ) → length pre ≡ start + 14 * k → recordAt start (pre ++ (recordOf p ++ rest)) k ≡ recordOf p
+  first-record : (pre : List ℕ) (p : Particle) (rest : List ℕ) (start k : ℕ) → length pre ≡ start + recordLength * k → recordAt start (pre ++ (recordOf p ++ rest)) k ≡ recordOf p
   first-record pre p rest start k n =
-      ap (take 14) (drop-at pre (recordOf p ++ rest) (start + 14 * k) n) ∙ take-at (recordOf p) rest 14 (record-length p)
+      ap (take recordLength) (drop-at pre (recordOf p ++ rest) (start + recordLength * k) n) ∙ take-at (recordOf p) rest recordLength (record-length p)
 
-  walk-back : SizeLimits nx ny → (pre : List ℕ) (ps : List Particle) (start k least mass : ℕ) → length pre ≡ start + 14 * k → Within nx ny least mass ps → setFrom nx ny start (pre ++ recordsOf ps) (length ps) k least mass ≡ result ps
+  walk-back : SizeLimits nx ny → (pre : List ℕ) (ps : List Particle) (start k least mass : ℕ) → length pre ≡ start + recordLength * k → Within nx ny least mass ps → setFrom nx ny start (pre ++ recordsOf ps) (length ps) k least mass ≡ result ps
   unfolding setFrom recordsOf RisingFrom
   walk-back sizes pre [] start k least mass n w = refl
   walk-back sizes pre (p ∷ ps) start k least mass n w =
@@ -195,16 +186,16 @@ module _ (nx ny : ℕ) where
       )
       (ap (λ a. andThen a (λ qs. result (p ∷ qs))) (rw (append-assoc pre (recordOf p) (recordsOf ps)) at further))
     where
-      first : (a b c : ℕ) → a + (b + c) ≤ 131072 → a + b ≤ 131072
+      first : (a b c : ℕ) → a + (b + c) ≤ mostTotalMass → a + b ≤ mostTotalMass
       first a b c h = omega arith
 
-      regroup : (a b c : ℕ) → a + (b + c) ≤ 131072 → a + b + c ≤ 131072
+      regroup : (a b c : ℕ) → a + (b + c) ≤ mostTotalMass → a + b + c ≤ mostTotalMass
       regroup a b c h = omega arith
 
-      longer : length (pre ++ recordOf p) ≡ start + 14 * suc k
+      longer : length (pre ++ recordOf p) ≡ start + recordLength * suc k
       longer = length-append pre (recordOf p) ∙ count (length pre) (length (recordOf p)) n (record-length p)
         where
-          count : (a b : ℕ) → a ≡ start + 14 * k → b ≡ 14 → a + b ≡ start + 14 * suc k
+          count : (a b : ℕ) → a ≡ start + recordLength * k → b ≡ recordLength → a + b ≡ start + recordLength * suc k
           count a b h g = omega arith
 
 rising-from : (least : ℕ) (p : Particle) (ps : List Particle) → least ≤ p .identifier → Rising (p ∷ ps) → RisingFrom least (p ∷ ps)
@@ -228,14 +219,14 @@ limits-accepted nx ny ps l =
     is-size : validSize nx ny ≡ true
     is-size =
         rw (
-          le-leb 4 nx (l .sizes .x-least),
-          le-leb nx 48 (l .sizes .x-most),
-          le-leb 4 ny (l .sizes .y-least),
-          le-leb ny 48 (l .sizes .y-most),
+          le-leb leastSide nx (l .sizes .x-least),
+          le-leb nx mostSide (l .sizes .x-most),
+          le-leb leastSide ny (l .sizes .y-least),
+          le-leb ny mostSide (l .sizes .y-most),
         )
 
-    is-whole : (b n : ℕ) → b ≡ 14 * n → n ≤ 4096 → validLength b ≡ true
-    is-whole b n e h = rw (eq-eqb (b % 14) 0 (omega arith), le-leb b 57344 (omega arith))
+    is-whole : (b n : ℕ) → b ≡ recordLength * n → n ≤ mostRecords → validLength b ≡ true
+    is-whole b n e h = rw (eq-eqb (b % recordLength) 0 (omega arith), le-leb b setLength (omega arith))
 
-    counts : (b n : ℕ) → b ≡ 14 * n → b / 14 ≡ n
+    counts : (b n : ℕ) → b ≡ recordLength * n → b / recordLength ≡ n
     counts b n e = omega arith

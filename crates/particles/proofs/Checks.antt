@@ -8,51 +8,52 @@ use lib.Dec.{T, leb, ltb, eqb, leb→le, eqb→eq}
 use lib.ListN.{length, drop, length-drop}
 use lib.Seq.{length-take-le}
 use mir.Facts.{and-yes}
-use borrow.Author.Tests.{eq-eqb, not-false, ltb-false}
+use borrow.Author.Tests.{not-false, ltb-false}
 use Rattle.refusal.specs.Refused.{Answer, result, refused, andThen}
-use Rattle.refusal.proofs.Answers.{same-result, passed, went-on}
+use Rattle.refusal.proofs.Answers.{same-result, passed, right-length, went-on}
+use Rattle.limits.specs.Limits.{leastSide, mostSide, mostRecords, mostTotalMass}
 use Rattle.particle.specs.declared.Particle.{Particle}
 use Rattle.particle.specs.Layout.{recordLength}
 use Rattle.particle.specs.Record.{particleOf, readParticle, readAnswer}
 use Rattle.spline.specs.Spline.{onAxis}
 use Rattle.apic.specs.Limits.{SizeLimits}
-use Rattle.particles.specs.Set.{validSize, validLength, recordAt, recordCount, onGrid, admitted, setFrom, setOf, setAnswer}
+use Rattle.particles.specs.Set.{validSize, setLength, validLength, recordAt, recordCount, onGrid, admitted, setFrom, setOf, setAnswer}
 
 holds : {b : Bool} → b ≡ true → T b
 holds e = subst T (sym e) tt
 
 pub size-limits : (nx ny : ℕ) → validSize nx ny ≡ true → SizeLimits nx ny
 size-limits nx ny e =
-    let xy = and-yes (leb 4 nx && leb nx 48) (leb 4 ny && leb ny 48) (holds e) in
-    let x = and-yes (leb 4 nx) (leb nx 48) (xy .0) in
-    let y = and-yes (leb 4 ny) (leb ny 48) (xy .1) in
+    let xy = and-yes (leb leastSide nx && leb nx mostSide) (leb leastSide ny && leb ny mostSide) (holds e) in
+    let x = and-yes (leb leastSide nx) (leb nx mostSide) (xy .0) in
+    let y = and-yes (leb leastSide ny) (leb ny mostSide) (xy .1) in
     record {
-      x-least = leb→le 4 nx (x .0);
-      x-most = leb→le nx 48 (x .1);
-      y-least = leb→le 4 ny (y .0);
-      y-most = leb→le ny 48 (y .1);
+      x-least = leb→le leastSide nx (x .0);
+      x-most = leb→le nx mostSide (x .1);
+      y-least = leb→le leastSide ny (y .0);
+      y-most = leb→le ny mostSide (y .1);
     }
 
 pub record LengthLimits (n : ℕ) : Type 0 where
-  pub count : n / 14 ≤ 4096
-  pub whole : 14 * (n / 14) ≡ n
+  pub count : n / recordLength ≤ mostRecords
+  pub whole : recordLength * (n / recordLength) ≡ n
 
 pub length-limits : (n : ℕ) → validLength n ≡ true → LengthLimits n
 length-limits n e =
-    let both = and-yes (eqb (n % 14) 0) (leb n 57344) (holds e) in
-    facts (eqb→eq (n % 14) 0 (both .0)) (leb→le n 57344 (both .1))
+    let both = and-yes (eqb (n % recordLength) 0) (leb n setLength) (holds e) in
+    facts (eqb→eq (n % recordLength) 0 (both .0)) (leb→le n setLength (both .1))
   where
-    facts : n % 14 ≡ 0 → n ≤ 57344 → LengthLimits n
+    facts : n % recordLength ≡ 0 → n ≤ setLength → LengthLimits n
     facts a b = record { count = omega arith; whole = omega arith }
 
 -- ---- a record that is there
 
-pub record-long : (start : ℕ) (bytes : List ℕ) (k : ℕ) → start + 14 * k + 14 ≤ length bytes → length (recordAt start bytes k) ≡ recordLength
-record-long start bytes k h = length-take-le 14 (drop (start + 14 * k) bytes) (rw (length-drop (start + 14 * k) bytes) (omega arith))
+pub record-long : (start : ℕ) (bytes : List ℕ) (k : ℕ) → start + recordLength * k + recordLength ≤ length bytes → length (recordAt start bytes k) ≡ recordLength
+record-long start bytes k h = length-take-le recordLength (drop (start + recordLength * k) bytes) (rw (length-drop (start + recordLength * k) bytes) (omega arith))
 
 pub read-long : (k : ℕ) (bytes : List ℕ) → length bytes ≡ recordLength → readAnswer k bytes ≡ readParticle k (particleOf bytes)
 unfolding readAnswer
-read-long k bytes h = rw (eq-eqb (length bytes) recordLength h)
+read-long k bytes h = right-length (length bytes) recordLength _ h
 
 -- ---- an accepted set, record by record
 
@@ -61,21 +62,21 @@ pub record Admits (nx ny least mass : ℕ) (p : Particle) : Type 0 where
   pub on-x : T (onAxis nx (p .x))
   pub on-y : T (onAxis ny (p .y))
   pub above : least ≤ p .identifier
-  pub light : mass + p .mass ≤ 131072
+  pub light : mass + p .mass ≤ mostTotalMass
 
 pub admitted-facts : (nx ny k least mass : ℕ) (p : Particle) {q : Particle} → admitted nx ny k least mass p ≡ result q → (p ≡ q) × Admits nx ny least mass p
 unfolding admitted
 admitted-facts nx ny k least mass p e =
     let a = passed (not (onGrid nx ny p)) 7 k _ e in
     let b = passed (ltb (p .identifier) least) 8 k _ (a .1) in
-    let c = passed (ltb 131072 (mass + p .mass)) 9 k _ (b .1) in
+    let c = passed (ltb mostTotalMass (mass + p .mass)) 9 k _ (b .1) in
     let on = and-yes (onAxis nx (p .x)) (onAxis ny (p .y)) (holds (not-false (onGrid nx ny p) (a .0))) in (
       same-result (c .1),
       record {
         on-x = on .0;
         on-y = on .1;
         above = ltb-false (p .identifier) least (b .0);
-        light = ltb-false 131072 (mass + p .mass) (c .0);
+        light = ltb-false mostTotalMass (mass + p .mass) (c .0);
       },
     )
 

@@ -1,5 +1,3 @@
-pub mod Held
-pub mod Shares
 pub mod Checks
 pub mod Admitted
 pub mod Turns

@@ -3,7 +3,7 @@
 --     refused-set        of the operation: 2, 1, or a record's limit
 -- Assumes nothing.
 use mathlib.Core.Path.{_≡_, refl, sym, ap, _∙_, subst}
-use mathlib.Core.Bool.{Bool, true, false, not, _||_}
+use mathlib.Core.Bool.{Bool, true, false, not}
 use mathlib.Core.List.{List, [], _∷_}
 use mathlib.Core.Logic.{inl, inr}
 use Prim.Native.Nat.{ℕ, zero, suc, _+_, _*_, _/_, _≤_, _<_}
@@ -11,11 +11,11 @@ use native.Mathlib.Nat.{add-assoc, add-zero, zero-add}
 use native.Mathlib.Omega.{arith}
 use lib.Dec.{eqb}
 use lib.ListN.{length}
-use lib.IntN.{pos, negℤ}
 use Rattle.refusal.specs.Refused.{Answer, result, refused, refuseIf, andThen}
 use Rattle.refusal.proofs.Answers.{same-result, not-result, not-refused}
 use Rattle.particle.specs.declared.Particle.{Particle}
-use Rattle.particle.specs.Record.{particleOf, isℤ, readParticle, readAnswer}
+use Rattle.particle.specs.Layout.{recordLength}
+use Rattle.particle.specs.Record.{particleOf, lowestVelocity, lowestAffine, readParticle, readAnswer}
 use Rattle.apic.specs.Totals.{totalMass}
 use Rattle.particles.specs.Set.{validSize, validLength, recordAt, recordCount, admitted, setFrom, setOf, setAnswer}
 use Rattle.particles.specs.Meaning.{leastAfter, limitsOn, FirstBroken, here, later, Broken, Refuses}
@@ -62,14 +62,14 @@ module _ (nx ny start : ℕ) (bytes : List ℕ) where
   allChecks k least mass = checks (limitsOn nx ny least mass (particleIn k)) k (result (particleIn k))
 
   -- the reader's checks and the set's are one list
-  one-list : {B : Type 0} (k least mass : ℕ) (next : Particle → Answer B) → start + 14 * k + 14 ≤ length bytes → andThen (readAnswer k (recordAt start bytes k)) (λ p. andThen (admitted nx ny k least mass p) next) ≡ andThen (allChecks k least mass) next
+  one-list : {B : Type 0} (k least mass : ℕ) (next : Particle → Answer B) → start + recordLength * k + recordLength ≤ length bytes → andThen (readAnswer k (recordAt start bytes k)) (λ p. andThen (admitted nx ny k least mass p) next) ≡ andThen (allChecks k least mass) next
   unfolding readParticle admitted checks
   one-list k least mass next h =
       rw (read-long k (recordAt start bytes k) (record-long start bytes k h))
       (joined
       (eqb (particleIn k .mass) 0)
-      (isℤ (negℤ (pos 64)) (particleIn k .vx) || isℤ (negℤ (pos 64)) (particleIn k .vy))
-      ((isℤ (negℤ (pos 2048)) (particleIn k .bxx) || isℤ (negℤ (pos 2048)) (particleIn k .bxy)) || (isℤ (negℤ (pos 2048)) (particleIn k .byx) || isℤ (negℤ (pos 2048)) (particleIn k .byy))))
+      (lowestVelocity (particleIn k))
+      (lowestAffine (particleIn k)))
     where
       joined : (a b c : Bool) → andThen (refuseIf a 4 k (refuseIf b 5 k (refuseIf c 6 k (result (particleIn k))))) (λ p. andThen (admitted nx ny k least mass p) next) ≡ andThen (refuseIf a 4 k (refuseIf b 5 k (refuseIf c 6 k (admitted nx ny k least mass (particleIn k))))) next
       joined true b c = refl
@@ -90,7 +90,7 @@ module _ (nx ny start : ℕ) (bytes : List ℕ) where
   abbrev further : ℕ → ℕ → ℕ → Particle → Answer (List Particle)
   further left k mass q = andThen (setFrom nx ny start bytes left (suc k) (suc (q .identifier)) (mass + q .mass)) (λ ps. result (q ∷ ps))
 
-  opened : (left k least mass : ℕ) → start + 14 * k + 14 ≤ length bytes → setFrom nx ny start bytes (suc left) k least mass ≡ andThen (allChecks k least mass) (further left k mass)
+  opened : (left k least mass : ℕ) → start + recordLength * k + recordLength ≤ length bytes → setFrom nx ny start bytes (suc left) k least mass ≡ andThen (allChecks k least mass) (further left k mass)
   unfolding setFrom
   opened left k least mass h = one-list k least mass (further left k mass) h
 
@@ -98,17 +98,17 @@ module _ (nx ny start : ℕ) (bytes : List ℕ) where
   further-refused (result ps) q e = not-refused e
   further-refused (refused n j) q e = cc
 
-  walk-refused : (left k least mass : ℕ) {n j : ℕ} → start + 14 * (k + left) ≤ length bytes → setFrom nx ny start bytes left k least mass ≡ refused n j → FromHere left k least mass n j
+  walk-refused : (left k least mass : ℕ) {n j : ℕ} → start + recordLength * (k + left) ≤ length bytes → setFrom nx ny start bytes left k least mass ≡ refused n j → FromHere left k least mass n j
   unfolding setFrom
   walk-refused zero k least mass h e = not-refused e
   walk-refused (suc left) k least mass {n} {j} h e =
       turn (allChecks k least mass) refl (sym (opened left k least mass room) ∙ e)
       (λ g. walk-refused left (suc k) (suc (particleIn k .identifier)) (mass + particleIn k .mass) rest g)
     where
-      room : start + 14 * k + 14 ≤ length bytes
+      room : start + recordLength * k + recordLength ≤ length bytes
       room = omega arith
 
-      rest : start + 14 * (suc k + left) ≤ length bytes
+      rest : start + recordLength * (suc k + left) ≤ length bytes
       rest = omega arith
 
       moved : FromHere left (suc k) (suc (particleIn k .identifier)) (mass + particleIn k .mass) n j → allChecks k least mass ≡ result (particleIn k) → FromHere (suc left) k least mass n j
@@ -155,7 +155,7 @@ module _ (nx ny start : ℕ) (bytes : List ℕ) where
           let e′ = subst (λ p. further left k mass p ≡ refused n j) (sym same) e in
           moved (again (further-refused _ (particleIn k) e′)) (g ∙ ap result (sym same))
 
-  pub refused-means : (count n k : ℕ) → start + 14 * count ≤ length bytes → setOf nx ny start bytes count ≡ refused n k → Broken nx ny start bytes count n k
+  pub refused-means : (count n k : ℕ) → start + recordLength * count ≤ length bytes → setOf nx ny start bytes count ≡ refused n k → Broken nx ny start bytes count n k
   refused-means count n k h e =
       let f = walk-refused count 0 0 0 (rw (zero-add count) h) e in
       record {
@@ -173,10 +173,10 @@ refused-set nx ny bytes {n} {k} e = size (validSize nx ny) refl e
     walk : Answer (List Particle)
     walk = setOf nx ny 0 bytes (recordCount bytes)
 
-    all : validLength (length bytes) ≡ true → 0 + 14 * (length bytes / 14) ≤ length bytes
+    all : validLength (length bytes) ≡ true → 0 + recordLength * (length bytes / recordLength) ≤ length bytes
     all h = room (length-limits (length bytes) h .whole)
       where
-        room : 14 * (length bytes / 14) ≡ length bytes → 0 + 14 * (length bytes / 14) ≤ length bytes
+        room : recordLength * (length bytes / recordLength) ≡ length bytes → 0 + recordLength * (length bytes / recordLength) ≤ length bytes
         room g = omega arith
 
     whole : (b : Bool) → validLength (length bytes) ≡ b → refuseIf (not b) 1 0 walk ≡ refused n k → Refuses nx ny bytes n k

@@ -1,48 +1,47 @@
--- The two loops over the records, the check and the walk, turn by turn.
+-- A loop over the records of a set, turn by turn, and the check as such a loop.
+--     part-is                the part that the reader is handed
 --     found, not-found       one record, by the record reader's answer
 --     Carried                what a loop carries along
+--     folded                 the same after some particles
 --     rest                   what is left from here on
 --     rest-none, rest-next, rest-refused      its laws: no record left, one admitted, one refused
 --     Left                   that this is the whole, in a loop's invariant, with a law for each way on
---     Checking, Walking      the invariants of the two loops, with the same laws
+--     Checking               the invariant of the check's loop, with the same laws
 -- Assumes nothing.
 use mathlib.Core.Path.{_≡_, refl, sym, ap, _∙_, subst}
 use mathlib.Core.List.{List, [], _∷_}
 use Prim.Native.Nat.{ℕ, zero, suc, _+_, _-_, _*_, _≤_, _<_}
-use native.Mathlib.Nat.{zero-add, add-zero, add-assoc, sub-zero}
+use native.Mathlib.Nat.{sub-zero}
 use native.Mathlib.Numerals.{add-one}
 use lib.Dec.{lit≤}
 use native.Mathlib.Omega.{arith}
 use lib.ListN.{length, take, drop}
-use lib.IntN.{pos, +ℤ-idl, +ℤ-idr, +ℤ-assoc}
 use Rattle.refusal.specs.Refused.{Answer, result, refused, refusedBy, andThen}
 use Rattle.refusal.specs.declared.Refusal.{Refusal}
 use Rattle.refusal.proofs.Answers.{same-result, not-refused, not-result, same-refusal, went-on}
+use Rattle.limits.specs.Limits.{mostTotalMass}
 use Rattle.particle.specs.declared.Particle.{Particle}
 use Rattle.particle.specs.declared.Read.{Read}
 use Rattle.particle.specs.declared.Read.the-variants as read
+use Rattle.particle.specs.Layout.{recordLength}
 use Rattle.particle.specs.Record.{readAnswer, toldRead}
-use Rattle.particles.specs.declared.Totals.{Totals}
 use Rattle.particles.specs.declared.Entry.{Entry}
 use Rattle.particles.specs.declared.Entered.{Entered}
 use Rattle.particles.specs.declared.Entered.the-variants as entered
-use Rattle.particles.specs.declared.Progress.{Progress}
-use Rattle.particles.specs.declared.Next.{Next}
-use Rattle.particles.specs.declared.Next.the-variants as next
-use Rattle.particles.specs.Set.{recordAt, admitted, setFrom, setOf, totalsOf}
-use Rattle.particles.specs.Walk.{followed, toldEntered, enterAnswer, enterRecord, counted, share, plus, Small, SmallNext, advanced, toldNext, nextRecord, walked}
+use Rattle.particles.specs.Set.{recordAt, admitted, setFrom, setOf}
+use Rattle.particles.specs.Walk.{followed, toldEntered, checkParticle, checkRecord, counted}
 use Rattle.particles.proofs.Checks.{admitted-facts, counted as all-counted}
 
 -- the part that the reader is handed is the record
-part-is : (start k : ℕ) (bytes : List ℕ) → take (start + 14 * k + 14 - (start + 14 * k)) (drop (start + 14 * k) bytes) ≡ recordAt start bytes k
-part-is start k bytes = ap (λ n. take n (drop (start + 14 * k) bytes)) (room (start + 14 * k))
+pub part-is : (at : ℕ) (bytes : List ℕ) → take (at + recordLength - at) (drop at bytes) ≡ take recordLength (drop at bytes)
+part-is at bytes = ap (λ n. take n (drop at bytes)) room
   where
-    room : (a : ℕ) → a + 14 - a ≡ 14
-    room a = omega arith
+    room : at + recordLength - at ≡ recordLength
+    room = omega arith
 
-module _ {S : Type 0} (start k : ℕ) (bytes : List ℕ) (next : Particle → Answer S) (r : Read) (answer : toldRead r ≡ readAnswer k (take (start + 14 * k + 14 - (start + 14 * k)) (drop (start + 14 * k) bytes))) where
+module _ {S : Type 0} (start k : ℕ) (bytes : List ℕ) (next : Particle → Answer S) (r : Read) (answer : toldRead r ≡ readAnswer k (take (start + recordLength * k + recordLength - (start + recordLength * k)) (drop (start + recordLength * k) bytes))) where
   is-record : toldRead r ≡ readAnswer k (recordAt start bytes k)
-  is-record = answer ∙ ap (readAnswer k) (part-is start k bytes)
+  is-record = answer ∙ ap (readAnswer k) (part-is (start + recordLength * k) bytes)
 
   pub found : {q : Particle} {a : Answer S} → r ≡ read.Found q → a ≡ next q → a ≡ andThen (readAnswer k (recordAt start bytes k)) next
   found e h = h ∙ ap (λ b. andThen b next) (ap toldRead (sym e) ∙ is-record)
@@ -63,7 +62,7 @@ pub record Carried (S B : Type 0) : Type 0 where
   pub kept : (s : S) (q : Particle) → followed (entry s) q ≡ entry (add s q)
 
 module _ {S B : Type 0} (w : Carried S B) where
-  folded : S → List Particle → S
+  unfoldable pub folded : S → List Particle → S
   folded s [] = s
   folded s (q ∷ qs) = folded (w .add s q) qs
 
@@ -71,7 +70,7 @@ module _ {S B : Type 0} (w : Carried S B) where
     abbrev setAt : ℕ → ℕ → Entry → Answer (List Particle)
     setAt left k e = setFrom nx ny start bytes left k (e .least) (e .mass)
 
-    pub rest : ℕ → ℕ → S → Answer B
+    unfoldable pub rest : ℕ → ℕ → S → Answer B
     rest left k s = andThen (setAt left k (w .entry s)) (λ ps. result (w .close (folded s ps)))
 
     pub rest-none : (k : ℕ) (s : S) → rest zero k s ≡ result (w .close s)
@@ -175,17 +174,17 @@ abbrev start-of-check : Entry
 start-of-check = record { least = 0; mass = 0 }
 
 pub record Checking (nx ny start : ℕ) (bytes : List ℕ) (count : ℕ) (e : Entry) (k : ℕ) : Type 0 where
-  pub light : e .mass ≤ 131072
+  pub light : e .mass ≤ mostTotalMass
   pub left : Left (checking count) nx ny start bytes count (counted nx ny start bytes count) e k
 
 module _ (nx ny start : ℕ) (bytes : List ℕ) where
   -- the mass after a record that is admitted
-  light-after : (k : ℕ) (e : Entry) {t : Entry} → enterRecord nx ny start bytes k e ≡ result t → t .mass ≤ 131072
+  light-after : (k : ℕ) (e : Entry) {t : Entry} → checkRecord nx ny start bytes k e ≡ result t → t .mass ≤ mostTotalMass
   light-after k e h =
-      let a = went-on (readAnswer k (recordAt start bytes k)) (λ p. enterAnswer nx ny k e p) h in
+      let a = went-on (readAnswer k (recordAt start bytes k)) (λ p. checkParticle nx ny k e p) h in
       let b = went-on (admitted nx ny k (e .least) (e .mass) (a .0)) (λ q. result (followed e q)) (a .2) in
       let facts = admitted-facts nx ny k (e .least) (e .mass) (a .0) (b .1) in
-      subst (λ x. x .mass ≤ 131072) (same-result (b .2)) (subst (λ q. e .mass + q .mass ≤ 131072) (facts .0) (facts .1 .light))
+      subst (λ x. x .mass ≤ mostTotalMass) (same-result (b .2)) (subst (λ q. e .mass + q .mass ≤ mostTotalMass) (facts .0) (facts .1 .light))
 
   checks-all : (count : ℕ) → rest (checking count) nx ny start bytes count 0 start-of-check ≡ counted nx ny start bytes count
   unfolding rest
@@ -200,7 +199,7 @@ module _ {nx ny start : ℕ} {bytes : List ℕ} {count : ℕ} where
   checking-start =
       record { light = lit≤ tt; left = left-start (checking count) nx ny start bytes count (counted nx ny start bytes count) start-of-check (checks-all nx ny start bytes count) }
 
-  pub checking-next : {e : Entry} {k : ℕ} (r : Entered) (t : Entry) → Checking nx ny start bytes count e k → k < count → r ≡ entered.Admitted t → toldEntered r ≡ enterRecord nx ny start bytes k e → Checking nx ny start bytes count t (k + 1)
+  pub checking-next : {e : Entry} {k : ℕ} (r : Entered) (t : Entry) → Checking nx ny start bytes count e k → k < count → r ≡ entered.Passed t → toldEntered r ≡ checkRecord nx ny start bytes k e → Checking nx ny start bytes count t (k + 1)
   checking-next {e} {k} r t w h is answer =
       let told = sym answer ∙ ap toldEntered is in
       record {
@@ -208,99 +207,9 @@ module _ {nx ny start : ℕ} {bytes : List ℕ} {count : ℕ} where
         left = left-next (checking count) nx ny start bytes count (counted nx ny start bytes count) e k t (w .left) h told;
       }
 
-  pub checking-refused : {e : Entry} {k : ℕ} (r : Entered) (f : Refusal) → Checking nx ny start bytes count e k → k < count → r ≡ entered.Refused f → toldEntered r ≡ enterRecord nx ny start bytes k e → refusedBy f ≡ counted nx ny start bytes count
+  pub checking-refused : {e : Entry} {k : ℕ} (r : Entered) (f : Refusal) → Checking nx ny start bytes count e k → k < count → r ≡ entered.Refused f → toldEntered r ≡ checkRecord nx ny start bytes k e → refusedBy f ≡ counted nx ny start bytes count
   checking-refused {e} {k} r f w h is answer =
       left-refused (checking count) nx ny start bytes count (counted nx ny start bytes count) e k (w .left) h (sym answer ∙ ap toldEntered is)
 
   pub checking-end : {e : Entry} {k : ℕ} → Checking nx ny start bytes count e k → count ≤ k → result count ≡ counted nx ny start bytes count
   checking-end {e} {k} w h = left-end (checking count) nx ny start bytes count (counted nx ny start bytes count) e k (w .left) h
-
--- ---- the walk
-
-abbrev walking : Carried Progress Totals
-walking =
-    record {
-      entry = λ s. record { least = s .least; mass = s .totals .mass };
-      add = advanced;
-      close = λ s. s .totals;
-      kept = λ s q. refl;
-    }
-
-plus-assoc : (a b c : Totals) → plus (plus a b) c ≡ plus a (plus b c)
-plus-assoc a b c =
-    λ i.
-    record {
-      mass = add-assoc (a .mass) (b .mass) (c .mass) i;
-      px = +ℤ-assoc (a .px) (b .px) (c .px) i;
-      py = +ℤ-assoc (a .py) (b .py) (c .py) i;
-      spin = +ℤ-assoc (a .spin) (b .spin) (c .spin) i;
-      motion = +ℤ-assoc (a .motion) (b .motion) (c .motion) i;
-    }
-
-abbrev pub none : Totals
-none = record { mass = 0; px = pos 0; py = pos 0; spin = pos 0; motion = pos 0 }
-
-plus-none : (t : Totals) → plus t none ≡ t
-plus-none t =
-    λ i.
-    record {
-      mass = add-zero (t .mass) i;
-      px = +ℤ-idr (t .px) i;
-      py = +ℤ-idr (t .py) i;
-      spin = +ℤ-idr (t .spin) i;
-      motion = +ℤ-idr (t .motion) i;
-    }
-
-none-plus : (t : Totals) → plus none t ≡ t
-none-plus t =
-    λ i.
-    record {
-      mass = zero-add (t .mass) i;
-      px = +ℤ-idl (t .px) i;
-      py = +ℤ-idl (t .py) i;
-      spin = +ℤ-idl (t .spin) i;
-      motion = +ℤ-idl (t .motion) i;
-    }
-
-sums-are : (s : Progress) (ps : List Particle) → folded walking s ps .totals ≡ plus (s .totals) (totalsOf ps)
-unfolding folded
-sums-are s [] = sym (plus-none (s .totals))
-sums-are s (p ∷ ps) = sums-are (advanced s p) ps ∙ plus-assoc (s .totals) (share p) (totalsOf ps)
-
-abbrev start-of-walk : Progress
-start-of-walk = record { least = 0; totals = none }
-
-pub record Walking (nx ny start : ℕ) (bytes : List ℕ) (count : ℕ) (s : Progress) (k : ℕ) : Type 0 where
-  pub small : Small k (s .totals)
-  pub left : Left walking nx ny start bytes count (walked nx ny start bytes count) s k
-
-module _ (nx ny start : ℕ) (bytes : List ℕ) (count : ℕ) where
-  walks-all : rest walking nx ny start bytes count 0 start-of-walk ≡ walked nx ny start bytes count
-  unfolding rest
-  walks-all = go (setOf nx ny start bytes count)
-    where
-      go : (a : Answer (List Particle)) → andThen a (λ ps. result (folded walking start-of-walk ps .totals)) ≡ andThen a (λ ps. result (totalsOf ps))
-      go (result ps) = ap result (sums-are start-of-walk ps ∙ none-plus (totalsOf ps))
-      go (refused n j) = refl
-
-module _ {nx ny start : ℕ} {bytes : List ℕ} {count : ℕ} where
-  pub walking-start : Walking nx ny start bytes count start-of-walk 0
-  walking-start =
-      record {
-        small = record { mass = lit≤ tt; px = lit≤ tt; py = lit≤ tt; spin = lit≤ tt; motion = lit≤ tt };
-        left = left-start walking nx ny start bytes count (walked nx ny start bytes count) start-of-walk (walks-all nx ny start bytes count);
-      }
-
-  pub walking-next : {s : Progress} {k : ℕ} (r : Next) (t : Progress) → Walking nx ny start bytes count s k → k < count → r ≡ next.Admitted t → toldNext r ≡ nextRecord nx ny start bytes k s → SmallNext (k + 1) r → Walking nx ny start bytes count t (k + 1)
-  walking-next {s} {k} r t w h e answer small =
-      record {
-        small = subst (SmallNext (k + 1)) e small;
-        left = left-next walking nx ny start bytes count (walked nx ny start bytes count) s k t (w .left) h (sym answer ∙ ap toldNext e);
-      }
-
-  pub walking-refused : {s : Progress} {k : ℕ} (r : Next) (f : Refusal) → Walking nx ny start bytes count s k → k < count → r ≡ next.Refused f → toldNext r ≡ nextRecord nx ny start bytes k s → refusedBy f ≡ walked nx ny start bytes count
-  walking-refused {s} {k} r f w h e answer =
-      left-refused walking nx ny start bytes count (walked nx ny start bytes count) s k (w .left) h (sym answer ∙ ap toldNext e)
-
-  pub walking-end : {s : Progress} {k : ℕ} → Walking nx ny start bytes count s k → count ≤ k → result (s .totals) ≡ walked nx ny start bytes count
-  walking-end {s} {k} w h = left-end walking nx ny start bytes count (walked nx ny start bytes count) s k (w .left) h

@@ -1,16 +1,16 @@
 -- What a refused set tells, for those who doubt the walk: the record that the refusal names is the first that breaks a limit,
 -- and the number is that of the first limit in document 01's order that it breaks. Assumes nothing.
 use mathlib.Core.Path.{_≡_}
-use mathlib.Core.Bool.{Bool, true, false, not, _||_}
+use mathlib.Core.Bool.{Bool, true, false, not}
 use mathlib.Core.List.{List, [], _∷_}
 use mathlib.Core.Logic.{_⊎_}
 use Prim.Native.Nat.{ℕ, suc, _+_, _<_}
 use lib.Dec.{eqb, ltb}
-use lib.IntN.{pos, negℤ}
 use lib.ListN.{length}
 use Rattle.refusal.specs.Refused.{result}
+use Rattle.limits.specs.Limits.{mostTotalMass}
 use Rattle.particle.specs.declared.Particle.{Particle}
-use Rattle.particle.specs.Record.{particleOf, isℤ}
+use Rattle.particle.specs.Record.{particleOf, lowestVelocity, lowestAffine}
 use Rattle.apic.specs.Totals.{totalMass}
 use Rattle.particles.specs.Set.{recordAt, recordCount, onGrid, setOf, validSize, validLength}
 
@@ -24,11 +24,11 @@ leastAfter least (p ∷ ps) = leastAfter (suc (p .identifier)) ps
 abbrev pub limitsOn : ℕ → ℕ → ℕ → ℕ → Particle → List (ℕ × Bool)
 limitsOn nx ny least mass p =
     (4, eqb (p .mass) 0)
-    ∷ (5, isℤ (negℤ (pos 64)) (p .vx) || isℤ (negℤ (pos 64)) (p .vy))
-    ∷ (6, (isℤ (negℤ (pos 2048)) (p .bxx) || isℤ (negℤ (pos 2048)) (p .bxy)) || (isℤ (negℤ (pos 2048)) (p .byx) || isℤ (negℤ (pos 2048)) (p .byy)))
+    ∷ (5, lowestVelocity p)
+    ∷ (6, lowestAffine p)
     ∷ (7, not (onGrid nx ny p))
     ∷ (8, ltb (p .identifier) least)
-    ∷ (9, ltb 131072 (mass + p .mass))
+    ∷ (9, ltb mostTotalMass (mass + p .mass))
     ∷ []
 
 -- this number is the first of a list that is broken

@@ -1,4 +1,4 @@
--- Document 01, "Check a set" and "Totals": the walk over the records of a set, and the two operations' answers.
+-- Document 01, "Check a set": the walk over the records of a set, and the operation's answer.
 -- A set's records lie one after the other from a byte `start` on. Assumes nothing.
 use mathlib.Core.Bool.{Bool, not, _&&_}
 use mathlib.Core.List.{List, [], _∷_, _++_, map}
@@ -6,18 +6,14 @@ use Prim.Native.Nat.{ℕ, zero, suc, _+_, _*_, _/_, _%_}
 use lib.Dec.{leb, ltb, eqb}
 use lib.ListN.{length, take, drop}
 use Rattle.refusal.specs.Refused.{Answer, result, refusedBy, refuseIf, andThen}
+use Rattle.limits.specs.Limits.{leastSide, mostSide, mostRecords, mostTotalMass}
 use Rattle.arith.specs.Sums.{upTo}
 use Rattle.spline.specs.Spline.{onAxis}
 use Rattle.particle.specs.declared.Particle.{Particle}
 use Rattle.particle.specs.Layout.{recordLength}
 use Rattle.particle.specs.Record.{readAnswer, particleOf, recordOf}
-use Rattle.apic.specs.Step.{alongX, alongY}
-use Rattle.apic.specs.Totals.{totalMass, momentum, angularMomentum, motion}
-use Rattle.particles.specs.declared.Totals.{Totals}
 use Rattle.particles.specs.declared.Checked.{Checked}
 use Rattle.particles.specs.declared.Checked.the-variants as checked
-use Rattle.particles.specs.declared.Totalled.{Totalled}
-use Rattle.particles.specs.declared.Totalled.the-variants as totalled
 
 -- ---- the set: for each record 4, 5, 6, 7, 8, 9
 
@@ -33,7 +29,7 @@ onGrid nx ny p = onAxis nx (p .x) && onAxis ny (p .y)
 unfoldable pub admitted : ℕ → ℕ → ℕ → ℕ → ℕ → Particle → Answer Particle
 admitted nx ny k least mass p =
     refuseIf (not (onGrid nx ny p)) 7 k
-    (refuseIf (ltb (p .identifier) least) 8 k (refuseIf (ltb 131072 (mass + p .mass)) 9 k (result p)))
+    (refuseIf (ltb (p .identifier) least) 8 k (refuseIf (ltb mostTotalMass (mass + p .mass)) 9 k (result p)))
 
 -- the particles of the records from index k on, of which `left` are left
 unfoldable pub setFrom : ℕ → ℕ → ℕ → List ℕ → ℕ → ℕ → ℕ → ℕ → Answer (List Particle)
@@ -53,20 +49,24 @@ unfoldable pub recordsOf : List Particle → List ℕ
 recordsOf [] = []
 recordsOf (p ∷ ps) = recordOf p ++ recordsOf ps
 
--- ---- the operations
+-- ---- the operation
 
 -- Nx and Ny are 4 to 48
 abbrev pub validSize : ℕ → ℕ → Bool
-validSize nx ny = (leb 4 nx && leb nx 48) && (leb 4 ny && leb ny 48)
+validSize nx ny = (leb leastSide nx && leb nx mostSide) && (leb leastSide ny && leb ny mostSide)
 
--- a length in bytes is a multiple of 14 and at most 57,344
+-- the length in bytes of the largest set
+abbrev pub setLength : ℕ
+setLength = recordLength * mostRecords
+
+-- a length in bytes is whole records, and not too many
 abbrev pub validLength : ℕ → Bool
-validLength n = eqb (n % recordLength) 0 && leb n 57344
+validLength n = eqb (n % recordLength) 0 && leb n setLength
 
 abbrev pub recordCount : List ℕ → ℕ
 recordCount bytes = length bytes / recordLength
 
--- the particles that records hold, each 14 bytes one, whether or not the set is accepted
+-- the particles that records hold, one in each record, whether or not the set is accepted
 abbrev pub particleIn : List ℕ → ℕ → Particle
 particleIn bytes k = particleOf (recordAt 0 bytes k)
 
@@ -84,21 +84,3 @@ checkAnswer nx ny bytes = andThen (setAnswer nx ny bytes) (λ ps. result (length
 abbrev pub toldChecked : Checked → Answer ℕ
 toldChecked (checked.Records n) = result n
 toldChecked (checked.Refused e) = refusedBy e
-
--- "Totals"
-abbrev pub totalsOf : List Particle → Totals
-totalsOf ps =
-    record {
-      mass = totalMass ps;
-      px = momentum alongX ps;
-      py = momentum alongY ps;
-      spin = angularMomentum ps;
-      motion = motion ps;
-    }
-
-abbrev pub totalsAnswer : ℕ → ℕ → List ℕ → Answer Totals
-totalsAnswer nx ny bytes = andThen (setAnswer nx ny bytes) (λ ps. result (totalsOf ps))
-
-abbrev pub toldTotalled : Totalled → Answer Totals
-toldTotalled (totalled.Sums t) = result t
-toldTotalled (totalled.Refused e) = refusedBy e

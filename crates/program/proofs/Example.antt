@@ -7,15 +7,17 @@ use Rattle.apic.specs.Step.{nodeMass, nodeMomentum, nodeVelocity, gatheredVeloc
 use Rattle.particles.specs.Set.{admitted, setFrom, recordsOf, particlesIn}
 use Rattle.gather_core.specs.Gather.{moveCheck, moveChecks}
 use Rattle.update.specs.Update.{velocities}
+use Rattle.entry.specs.Entry.{beginAnswer, entryAnswer}
 use Rattle.simulation.specs.Step.{masses, momenta, updatedVelocities, stepped, stepOf}
 use Rattle.simulation.specs.Run.{runFrom, runEntry, runAfter}
 use Rattle.bath_file.specs.File.{headerIn, checkedHeader, headerAnswer, recordsAnswer}
-use Rattle.report.specs.Decimal.{digitsWithin, decimal, signed}
+use Rattle.text.specs.Decimal.{digitsWithin, decimal, signed}
 use Rattle.report.specs.Lines.{refusedLine, doneLine, totalsLine, particleLine, particleLines}
 use Rattle.report.specs.Report.{runText}
-use Rattle.program.specs.Program.{reportOf, programText}
+use Rattle.run_report.specs.RunReport.{reportOf}
+use Rattle.program.specs.Program.{programText}
 use Rattle.program.specs.Examples.{Examples}
 
 pub examples : Examples
-unfolding nearest nearestNode offset onAxis axisWeight particleOf recordOf readParticle readAnswer admitted setFrom recordsOf particlesIn nodeMass nodeMomentum nodeVelocity gatheredVelocity gatheredAffine moved moveCheck moveChecks velocities masses momenta updatedVelocities stepped stepOf runFrom runEntry runAfter headerIn checkedHeader headerAnswer recordsAnswer digitsWithin decimal signed refusedLine doneLine totalsLine particleLine particleLines runText reportOf programText
+unfolding nearest nearestNode offset onAxis axisWeight particleOf recordOf readParticle readAnswer admitted setFrom recordsOf particlesIn nodeMass nodeMomentum nodeVelocity gatheredVelocity gatheredAffine moved moveCheck moveChecks velocities masses momenta updatedVelocities stepped stepOf runFrom entryAnswer beginAnswer runEntry runAfter headerIn checkedHeader headerAnswer recordsAnswer digitsWithin decimal signed refusedLine doneLine totalsLine particleLine particleLines runText reportOf programText
 examples = record { printed = refl; stopped = refl; refused = refl }

@@ -1,38 +1,41 @@
 -- What the caller sees of a file that was accepted, and of a refused one.
 --     lent, given-back       the part behind the header as it is lent, and the file with other records there
---     on-first               a run on the first nodes of grids
 --     text-by, prints        what the caller sees, by the file's answer
 --     text-within            the text is within its buffer
 --     file-sizes, file-long, report-ready
 --                            an accepted file can be run, and the records that the run leaves can be reported
 --     accepted-prints        then the caller sees what the definitions say
 -- Assumes nothing.
-use Prim.Native.Nat.{ℕ, _*_, _-_, _≤_}
-use native.Mathlib.Nat.{mul-le-mul, le-trans}
+use Prim.Native.Nat.{ℕ, _-_, _≤_}
+use native.Mathlib.Nat.{le-trans}
 use native.Mathlib.Omega.{arith}
 use mathlib.Core.Path.{_≡_, refl, sym, ap, ap₂, subst, _∙_}
 use mathlib.Core.Bool.{false}
 use mathlib.Core.List.{List, _++_, append-nil}
 use lib.IntN.{ℤ, pos}
-use lib.ListN.{length, replicate, take, drop, length-append, length-drop, length-replicate, drop-of-length-le}
+use lib.ListN.{length, take, drop, length-append, length-drop, length-replicate, drop-of-length-le}
 use lib.Seq.{length-take-le, take-all, drop-at}
 use Rattle.refusal.specs.Refused.{Answer, either}
 use Rattle.apic.specs.Limits.{SizeLimits}
 use Rattle.particles.proofs.Checks.{size-limits, entered}
-use Rattle.simulation.specs.declared.Settings.{Settings}
 use Rattle.simulation.specs.declared.Ran.{Ran}
-use Rattle.simulation.specs.Step.{Grids, Sees, gridsOf}
-use Rattle.simulation.specs.Run.{Completion, runAfter, toldRan}
+use Rattle.apic.specs.Step.{Grids, gridsOf}
+use Rattle.simulation.specs.Step.{Sees}
+use Rattle.simulation.specs.Run.{toldRan}
 use Rattle.bath_file.specs.declared.Header.{Header}
 use Rattle.bath_file.specs.Layout.{headerLength}
 use Rattle.bath_file.specs.File.{fileAnswer}
 use Rattle.bath_file.proofs.Answers.{header-held}
 use Rattle.bath_file.proofs.Records.{file-held}
 use Rattle.report.specs.Lines.{refusedLine}
+use Rattle.file_run.specs.FileRun.{settingsFor, nodeCount, firstNodes, withFirst, runFirst}
+use Rattle.file_run.proofs.FirstNodes.{nodes-most}
+use Rattle.run_report.specs.RunReport.{reportOf}
+use Rattle.run_report.specs.Internal.{Reportable, Begins}
 use Rattle.program.specs.declared.Printed.{Printed}
-use Rattle.program.specs.Program.{settingsFor, nodeCount, recordsIn, runOf, zeroGrids, reportOf, runReport, programText, isRefused, printed, textAfter, fileAfter, gridsAfter, firstNodes, withFirst}
+use Rattle.program.specs.Program.{recordsIn, runOf, zeroGrids, runReport, programText, isRefused, printed, textAfter, fileAfter, gridsAfter}
 use Rattle.program.specs.Laws.{SameLengths}
-use Rattle.program.specs.Internal.{mostNodes, runFirst, Reportable, Begins, AcceptedFile, Prints}
+use Rattle.program.specs.Internal.{AcceptedFile, Prints}
 use Rattle.program.proofs.Grids.{any-grids}
 use Rattle.program.proofs.Kept.{Held, kept-totals, run-kept}
 
@@ -66,27 +69,6 @@ module _ (bytes records : List ℕ) where
         lent-all (given-back bytes records)
         ∙ ap recordsIn back-is
         ∙ drop-at (take headerLength bytes) records headerLength (length-take-le headerLength bytes long)
-
--- ---- the run
-
-pub nodes-most : {nx ny : ℕ} → SizeLimits nx ny → nx * ny ≤ mostNodes
-nodes-most l = mul-le-mul (l .x-most) (l .y-most)
-
--- a run on the first n nodes
-module _ (h : Header) {s : Settings} {n : ℕ} (settings : s ≡ settingsFor h) (size : n ≡ nodeCount h) (records mass : List ℕ) (x y : List ℤ) where
-  pub on-first :
-      {c : Completion} {records′ mass′ : List ℕ} {x′ y′ : List ℤ} →
-      Sees (runAfter s (h .steps) records (firstNodes n (gridsOf mass x y))) c records′ mass′ x′ y′ →
-      Sees (runFirst h records (gridsOf mass x y)) c records′ (mass′ ++ drop n mass) (x′ ++ drop n x) (y′ ++ drop n y)
-  on-first r =
-      let same = ap₂ (λ s n. runAfter s (h .steps) records (firstNodes n (gridsOf mass x y))) settings size in
-      record {
-        answer = r .answer ∙ ap (λ a. a .answer) same;
-        records = r .records ∙ ap (λ a. a .records) same;
-        masses = ap₂ (λ l n. l ++ drop n mass) (r .masses ∙ ap (λ a. a .grids .mass) same) size;
-        x-velocities = ap₂ (λ l n. l ++ drop n x) (r .x-velocities ∙ ap (λ a. a .grids .x) same) size;
-        y-velocities = ap₂ (λ l n. l ++ drop n y) (r .y-velocities ∙ ap (λ a. a .grids .y) same) size;
-      }
 
 -- ---- what the caller sees, by the file's answer
 

@@ -4,8 +4,9 @@ use mathlib.Core.Path.{_≡_, refl, subst}
 use mathlib.Core.List.{List}
 use Rattle.refusal.specs.Refused.{Answer, result, refused, either}
 use Rattle.particle.specs.declared.Particle.{Particle}
-use Rattle.simulation.specs.declared.Settings.{Settings}
-use Rattle.simulation.specs.Step.{Grids, After}
+use Rattle.settings.specs.declared.Settings.{Settings}
+use Rattle.apic.specs.Step.{Grids}
+use Rattle.simulation.specs.Step.{After}
 use Rattle.simulation.specs.Run.{Completion, runFrom, runEntry, runAfter}
 use Rattle.program.specs.Laws.{SameLengths, AnyGrids}
 

@@ -8,13 +8,14 @@ use mathlib.Core.List.{List}
 use Rattle.refusal.specs.Refused.{Answer, result, refused, andThen}
 use Rattle.particle.specs.declared.Particle.{Particle}
 use Rattle.apic.specs.Limits.{SetLimits}
-use Rattle.particles.specs.Set.{recordsOf, setAnswer, totalsOf, totalsAnswer, particlesIn}
-use Rattle.particles.proofs.Checks.{entered}
+use Rattle.particles.specs.Set.{recordsOf, setAnswer, particlesIn}
+use Rattle.totals.specs.Totals.{totalsOf, totalsAnswer}
 use Rattle.particles.proofs.Accepted.{accepted-limits, limits-accepted}
-use Rattle.simulation.specs.declared.Settings.{Settings}
-use Rattle.simulation.specs.Step.{Grids, nodesOf, stepOf}
+use Rattle.settings.specs.declared.Settings.{Settings}
+use Rattle.apic.specs.Step.{Grids}
+use Rattle.simulation.specs.Step.{nodesOf, stepOf}
 use Rattle.simulation.specs.Run.{runFrom, runEntry, runAfter}
-use Rattle.simulation.proofs.Records.{set-particles}
+use Rattle.packing.proofs.Sets.{particlesIn-accepted}
 use Rattle.simulation.proofs.Steps.{step-result, completed, limits-after}
 use Rattle.simulation.proofs.Calls.{ready-run}
 
@@ -24,7 +25,7 @@ pub record Held (nx ny : ℕ) (records : List ℕ) : Type 0 where
   pub set : setAnswer nx ny records ≡ result particles
 
 pub held-particles : {nx ny : ℕ} {records : List ℕ} (h : Held nx ny records) → particlesIn records ≡ h .particles
-held-particles {nx} {ny} {records} h = set-particles nx ny records (entered nx ny records (h .set) .set)
+held-particles {nx} {ny} {records} h = particlesIn-accepted nx ny records (h .set)
 
 pub kept-totals : {nx ny : ℕ} {records : List ℕ} → Held nx ny records → totalsAnswer nx ny records ≡ result (totalsOf (particlesIn records))
 kept-totals h = ap (λ a. andThen a (λ ps. result (totalsOf ps))) (h .set) ∙ ap (λ ps. result (totalsOf ps)) (sym (held-particles h))

@@ -1,6 +1,5 @@
 pub mod Grids
 pub mod Kept
-pub mod Reports
 pub mod Files
 pub mod Longer
 mod Example

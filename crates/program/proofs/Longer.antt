@@ -1,4 +1,4 @@
--- Of a longer input the first 57,354 bytes decide: both are refused alike, for their header or for their length.
+-- Of a longer input the first `roomForFile` bytes decide: both are refused alike, for their header or for their length.
 -- Assumes nothing.
 use Prim.Native.Nat.{ℕ, _+_, _*_, _≤_}
 use native.Mathlib.Omega.{arith}
@@ -9,10 +9,12 @@ use borrow.Author.Tests.{le-ltb}
 use lib.ListN.{length, take}
 use lib.Seq.{take-all, take-take, length-take-le}
 use Rattle.refusal.specs.Refused.{Answer, result, refused, andThen, either}
+use Rattle.limits.specs.Limits.{mostRecords}
+use Rattle.particle.specs.Layout.{recordLength}
 use Rattle.bath_file.specs.declared.Header.{Header}
 use Rattle.bath_file.specs.Layout.{headerLength}
 use Rattle.bath_file.specs.File.{headerAnswer, recordsAnswer, fileAnswer}
-use Rattle.bath_file.proofs.Answers.{header-held, wrong-length}
+use Rattle.bath_file.proofs.Answers.{header-held, wrong-records}
 use Rattle.report.specs.Lines.{refusedLine}
 use Rattle.program.specs.Program.{programText}
 use Rattle.program.specs.Laws.{roomForFile, LongerInput}
@@ -24,11 +26,11 @@ module _ (bytes bytes′ : List ℕ) (l : headerLength ≤ length bytes) (l′ :
   unfolding headerAnswer
   same-header e = rw (le-ltb (length bytes) headerLength l, le-ltb (length bytes′) headerLength l′, e)
 
--- no header counts as many records as 57,354 bytes and more would hold
+-- no header counts as many records as so many bytes and more would hold
 too-long : (bytes : List ℕ) (h : Header) → roomForFile ≤ length bytes → headerAnswer bytes ≡ result h → recordsAnswer h bytes ≡ refused 1 0
-too-long bytes h l e = wrong-length h bytes (λ n. never (length bytes) (h .count) l (header-held bytes e .valid .count-to) n)
+too-long bytes h l e = wrong-records h bytes (λ n. never (length bytes) (h .count) l (header-held bytes e .valid .count-to) n)
   where
-    never : (n c : ℕ) → roomForFile ≤ n → c ≤ 4096 → n ≡ 9 + 14 * c → ⊥
+    never : (n c : ℕ) → roomForFile ≤ n → c ≤ mostRecords → n ≡ headerLength + recordLength * c → ⊥
     never n c a b d = omega arith
 
 -- the refusal of a file that is too long is that of its header, or of its length

@@ -4,7 +4,7 @@ use Prim.Native.Nat.{ℕ}
 use mathlib.Core.Path.{_≡_}
 use mathlib.Core.List.{List, [], _∷_}
 use lib.ListN.{take}
-use Rattle.report.specs.Decimal.{bytesOf}
+use Rattle.text.specs.Decimal.{bytesOf}
 use Rattle.program.specs.Program.{programText}
 
 -- "10 40 00 00 00 00 08 00 20", then "00 07 00 81 00 10 01 FE 00 00 00 00 00 00"

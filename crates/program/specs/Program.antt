@@ -5,31 +5,24 @@
 --     textAfter, fileAfter, gridsAfter
 --                   the text buffer, the file buffer and the grids afterwards
 -- Assumes nothing.
-use Prim.Native.Nat.{ℕ, _*_}
+use Prim.Native.Nat.{ℕ}
 use mathlib.Core.Bool.{Bool, true, false}
 use mathlib.Core.List.{List, _++_}
 use lib.IntN.{pos}
 use lib.ListN.{length, replicate, take, drop}
 use Rattle.refusal.specs.Refused.{Answer, either}
-use Rattle.particles.specs.Set.{particlesIn, totalsOf}
-use Rattle.simulation.specs.declared.Settings.{Settings}
-use Rattle.simulation.specs.Step.{Grids, After, gridsOf}
+use Rattle.apic.specs.Step.{Grids, gridsOf}
+use Rattle.simulation.specs.Step.{After}
 use Rattle.simulation.specs.Run.{Completion, runAfter}
 use Rattle.bath_file.specs.declared.Header.{Header}
 use Rattle.bath_file.specs.Layout.{headerLength}
 use Rattle.bath_file.specs.File.{fileAnswer}
 use Rattle.report.specs.Lines.{refusedLine}
-use Rattle.report.specs.Report.{runText}
+use Rattle.file_run.specs.FileRun.{settingsFor, nodeCount, firstNodes, withFirst}
+use Rattle.run_report.specs.RunReport.{reportOf}
 use Rattle.program.specs.declared.Printed.{Printed}
 
 -- ---- "It reads a bath file from standard input, runs it and prints"
-
-abbrev pub settingsFor : Header → Settings
-settingsFor h = record { nx = h .nx; ny = h .ny; gx = h .gx; gy = h .gy }
-
--- Nx·Ny
-abbrev pub nodeCount : Header → ℕ
-nodeCount h = h .nx * h .ny
 
 -- the records lie behind the header
 abbrev pub recordsIn : List ℕ → List ℕ
@@ -42,14 +35,6 @@ runOf h bytes grids = runAfter (settingsFor h) (h .steps) (recordsIn bytes) grid
 -- grids of its size with every node zero
 abbrev pub zeroGrids : Header → Grids
 zeroGrids h = gridsOf (replicate (nodeCount h) 0) (replicate (nodeCount h) (pos 0)) (replicate (nodeCount h) (pos 0))
-
--- "completed steps, refusal (0 for none) and place; then the totals; then each record"
-unfoldable pub reportOf : Completion → List ℕ → List ℕ
-reportOf c records =
-    let totals = totalsOf (particlesIn records) in
-    either (c .stop)
-    (λ _. runText (c .completed) 0 0 totals records)
-    (λ number place. runText (c .completed) number place totals records)
 
 -- of the run, and of the records that it leaves
 abbrev pub runReport : List ℕ → Header → List ℕ
@@ -78,14 +63,6 @@ fileAfter bytes =
     either (fileAnswer bytes)
     (λ h. take headerLength bytes ++ runOf h bytes (zeroGrids h) .records)
     (λ number place. bytes)
-
--- the first nodes of grids that have room for any run, and such grids with others for their first nodes
-abbrev pub firstNodes : ℕ → Grids → Grids
-firstNodes n grids = gridsOf (take n (grids .mass)) (take n (grids .x)) (take n (grids .y))
-
-abbrev pub withFirst : ℕ → Grids → Grids → Grids
-withFirst n first grids =
-    gridsOf (first .mass ++ drop n (grids .mass)) (first .x ++ drop n (grids .x)) (first .y ++ drop n (grids .y))
 
 -- the first Nx·Ny nodes are what the run leaves, and the others as they were, as are all of them where the file is refused
 unfoldable pub gridsAfter : List ℕ → Grids → Grids

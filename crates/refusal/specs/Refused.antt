@@ -1,7 +1,8 @@
 -- An answer of document 01: a result, or a number with a place. Each operation's enum is read as one, and its promise is an equation of these.
 -- The place is the record, or for 11 and 12 the node, counted from 0, or 0 where there is none.
 -- Assumes nothing.
-use Prim.Native.Nat.{ℕ}
+use mathlib.Core.Path.{_≡_}
+use Prim.Native.Nat.{ℕ, zero, suc}
 use mathlib.Core.Bool.{Bool, true, false}
 use Rattle.refusal.specs.declared.Refusal.{Refusal}
 use Rattle.refusal.specs.declared.Refusal.the-variants.{Length, GridSize, Count, Mass, Velocity, Affine, Position, Identifier, TotalMass, Gravity, NodeMass, NodeVelocity, NewVelocity, NewAffine, NewPosition, SpareBits, Steps}
@@ -67,7 +68,24 @@ abbrev pub either : {A B : Type 0} → Answer A → (A → B) → (ℕ → ℕ �
 either (result a) accept refuse = accept a
 either (refused n k) accept refuse = refuse n k
 
--- what a call leaves of a buffer: something else where it has a result, and where it is refused what it was
+-- nothing is refused, and there is no value to tell
+abbrev pub done : Answer Unit
+done = result tt
+
+-- "for each" place from k on, n of them: the lowest place comes first
+abbrev pub forEach : (ℕ → Answer Unit) → ℕ → ℕ → Answer Unit
+forEach check k zero = done
+forEach check k (suc n) = andThen (check k) (λ _. forEach check (suc k) n)
+
+-- an answer without its value
+abbrev pub toldOf : {A : Type 0} → Answer A → Answer Unit
+toldOf a = andThen a (λ _. done)
+
+-- what a call tells, and what it leaves in the buffers that it may write: what is made of its result, or, refused, what they held
+pub record Leaves {A B : Type 0} (a : Answer A) (new : A → B) (old : B) (told : Answer Unit) (left : B) : Type 0 where
+  pub answer : told ≡ toldOf a
+  pub left-is : left ≡ either a new (λ n k. old)
+
+-- the same of one buffer whose new contents do not depend on the result
 abbrev pub keptUnless : {A B : Type 0} → Answer A → B → B → B
-keptUnless (result a) new old = new
-keptUnless (refused n k) new old = old
+keptUnless a new old = either a (λ _. new) (λ n k. old)

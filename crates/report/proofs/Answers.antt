@@ -1,5 +1,5 @@
 -- The text of each outcome, and the answer and the buffer of a report, way by way. Assumes nothing.
-use Prim.Native.Nat.{ℕ, _+_, _≤_, _<_}
+use Prim.Native.Nat.{ℕ, _≤_, _<_}
 use native.Mathlib.Nat.{zero-add}
 use mathlib.Core.Path.{_≡_, sym, ap, ap₂, _∙_}
 use mathlib.Core.Bool.{true, false}
@@ -8,12 +8,12 @@ use borrow.Author.Tests.{lt-ltb, le-ltb}
 use lib.ListN.{length, drop}
 use Rattle.refusal.specs.declared.Refusal.{Refusal}
 use Rattle.refusal.specs.Refused.{Answer, result, refused, number, place}
-use Rattle.particles.specs.declared.Totals.{Totals}
+use Rattle.totals.specs.declared.Totals.{Totals}
 use Rattle.particles.specs.Set.{validLength}
 use Rattle.report.specs.declared.Outcome.{Outcome}
 use Rattle.report.specs.declared.Outcome.the-variants.{Refused, Done, Stopped}
 use Rattle.report.specs.Lines.{refusedLine}
-use Rattle.report.specs.Internal.{Put}
+use Rattle.text.specs.Internal.{Put}
 use Rattle.report.specs.Report.{runText, textOf, reportLength, reportAnswer, filledUnless, filled}
 
 module _ (records : List ℕ) {o : Outcome} where

@@ -1,8 +1,8 @@
--- Every report fits the buffer: 36 bytes for a refused file's line, 62 and 128 for the first two lines of a run's, and 53 for
--- each record. Assumes nothing.
-use Prim.Native.Nat.{ℕ, zero, suc, _+_, _*_, _/_, _^_, _≤_, _<_}
+-- Every report fits the buffer: 36 bytes for a refused file's line, 62 and 128 for the first two lines of a run's, and the
+-- line's length for each record. Assumes nothing.
+use Prim.Native.Nat.{ℕ, zero, suc, _+_, _*_, _^_, _≤_, _<_}
 use native.Mathlib.Omega.{arith}
-use mathlib.Core.Path.{_≡_, refl, ap, _∙_}
+use mathlib.Core.Path.{_≡_, refl, ap}
 use mathlib.Core.Bool.{true}
 use mathlib.Core.List.{List, [], _∷_, _++_, map}
 use lib.Dec.{lit≤}
@@ -10,20 +10,18 @@ use lib.IntN.{ℤ, pos, negsuc, natAbs}
 use lib.Signed.{mag, natAbs-le}
 use lib.ListN.{length, length-append}
 use Rattle.arith.specs.Sums.{from, upTo}
-use Rattle.particle.specs.declared.Particle.{Particle}
-use Rattle.particle.specs.Bits.{cut, join, widths}
-use Rattle.particle.specs.Layout.{layout, byteWidths}
-use Rattle.particle.specs.Record.{particleOf}
-use Rattle.particle.proofs.Parts.{cut-below}
-use Rattle.particle.proofs.Signed.{decoded-mag}
-use Rattle.particles.specs.declared.Totals.{Totals}
+use Rattle.particle.specs.Layout.{identifier, mass, x, y, vx, vy, Bxx, Bxy, Byx, Byy}
+use Rattle.particle.specs.Record.{particleOf, numbers}
+use Rattle.particle.proofs.RoundTrip.{fields-hold}
+use Rattle.totals.specs.declared.Totals.{Totals}
 use Rattle.particles.specs.Set.{recordAt, recordCount, validLength, particlesIn}
 use Rattle.particles.proofs.Checks.{length-limits}
-use Rattle.report.specs.Decimal.{bytesOf, decimal, signed}
+use Rattle.text.specs.Decimal.{bytesOf, decimal, signed}
 use Rattle.report.specs.Lines.{line, refusedLine, doneLine, totalsLine, particleLine, particleLines}
-use Rattle.report.specs.Internal.{Room, linesUpTo}
-use Rattle.report.specs.Report.{runText, reportLength}
-use Rattle.report.proofs.Digits.{decimal-length}
+use Rattle.report.specs.Internal.{linesUpTo}
+use Rattle.report.specs.Report.{runText, lineLength, reportLength}
+use Rattle.text.proofs.Digits.{decimal-length}
+use Rattle.report.proofs.Texts.{particle-numbers}
 
 -- ---- a line, by bounds on its words
 
@@ -94,32 +92,35 @@ velocity z h = signed-length 1 z (omega (arith, natAbs-le z h))
 affine : (z : ℤ) → mag z < 2048 → length (signed z) ≤ 5
 affine z h = signed-length 3 z (omega (arith, natAbs-le z h))
 
-particle-length : (bytes : List ℕ) → length (particleLine (particleOf bytes)) ≤ 53
-unfolding particleLine particleOf
+particle-length : (bytes : List ℕ) → length (particleLine (particleOf bytes)) ≤ lineLength
+unfolding particleOf signed
 particle-length bytes =
     let p = particleOf bytes in
-    let d = cut-below (widths layout) (join byteWidths bytes) in
-    line-length
-    (decimal (p .identifier) ∷ decimal (p .mass) ∷ decimal (p .x) ∷ decimal (p .y) ∷ signed (p .vx) ∷ signed (p .vy) ∷ signed (p .bxx) ∷ signed (p .bxy) ∷ signed (p .byx) ∷ signed (p .byy) ∷ [])
+    let d = fields-hold bytes in
+    rw (particle-numbers p)
+    (line-length (map signed (numbers p))
     (5 ∷ 4 ∷ 4 ∷ 4 ∷ 3 ∷ 3 ∷ 5 ∷ 5 ∷ 5 ∷ 5 ∷ []) (
-      decimal-length 4 (p .identifier) (omega (arith, d .0)),
+      decimal-length 4 (p .identifier) (omega (arith, d identifier)),
       (
-        decimal-length 3 (p .mass) (omega (arith, d .1 .0)),
+        decimal-length 3 (p .mass) (omega (arith, d mass)),
         (
-          decimal-length 3 (p .x) (omega (arith, d .1 .1 .0)),
+          decimal-length 3 (p .x) (omega (arith, d x)),
           (
-            decimal-length 3 (p .y) (omega (arith, d .1 .1 .1 .0)),
+            decimal-length 3 (p .y) (omega (arith, d y)),
             (
-              velocity (p .vx) (decoded-mag 64 _ (d .1 .1 .1 .1 .0)),
+              velocity (p .vx) (d vx),
               (
-                velocity (p .vy) (decoded-mag 64 _ (d .1 .1 .1 .1 .1 .0)),
+                velocity (p .vy) (d vy),
                 (
-                  affine (p .bxx) (decoded-mag 2048 _ (d .1 .1 .1 .1 .1 .1 .0)),
+                  affine (p .bxx) (d Bxx),
                   (
-                    affine (p .bxy) (decoded-mag 2048 _ (d .1 .1 .1 .1 .1 .1 .1 .0)),
+                    affine (p .bxy) (d Bxy),
                     (
-                      affine (p .byx) (decoded-mag 2048 _ (d .1 .1 .1 .1 .1 .1 .1 .1 .0)),
-                      (affine (p .byy) (decoded-mag 2048 _ (d .1 .1 .1 .1 .1 .1 .1 .1 .1 .0)), tt),
+                      affine (p .byx) (d Byx),
+                      (
+                        affine (p .byy) (d Byy),
+                        tt,
+                      ),
                     ),
                   ),
                 ),
@@ -128,13 +129,13 @@ particle-length bytes =
           ),
         ),
       ),
-    )
+    ))
 
 from-length : (i n : ℕ) → length (from i n) ≡ n
 from-length i zero = refl
 from-length i (suc n) = ap suc (from-length (suc i) n)
 
-lines-length : (records ks : List ℕ) → length (particleLines (map (λ k. particleOf (recordAt 0 records k)) ks)) ≤ 53 * length ks
+lines-length : (records ks : List ℕ) → length (particleLines (map (λ k. particleOf (recordAt 0 records k)) ks)) ≤ lineLength * length ks
 unfolding particleLines
 lines-length records [] = omega arith
 lines-length records (k ∷ ks) =

@@ -7,7 +7,7 @@ use Rattle.refusal.specs.declared.Refusal.the-variants.{Mass}
 use Rattle.particle.specs.Record.{particleOf, recordOf}
 use Rattle.particles.specs.Set.{particlesIn}
 use Rattle.report.specs.declared.Outcome.the-variants.{Refused, Done}
-use Rattle.report.specs.Decimal.{bytesOf, digitsWithin, decimal, signed}
+use Rattle.text.specs.Decimal.{bytesOf, digitsWithin, decimal, signed}
 use Rattle.report.specs.Lines.{refusedLine, doneLine, totalsLine, particleLine, particleLines}
 use Rattle.report.specs.Report.{runText, textOf}
 

@@ -1,27 +1,26 @@
 -- The records of a set, line by line.
 -- Assumes nothing.
-use Prim.Native.Nat.{ℕ, suc, _+_, _-_, _*_, _/_, _≤_, _<_}
+use Prim.Native.Nat.{ℕ, _+_, _-_, _*_, _≤_, _<_}
 use native.Mathlib.Nat.{zero-add}
-use native.Mathlib.Numerals.{add-one}
 use native.Mathlib.Omega.{arith}
-use mathlib.Core.Path.{_≡_, refl, sym, ap, ap₂, _∙_}
+use mathlib.Core.Path.{_≡_, refl, sym, ap, _∙_}
 use mathlib.Core.List.{List, [], _∷_, _++_, map, append-assoc, append-nil}
-use lib.ListN.{length, take, drop}
+use lib.ListN.{take, drop}
 use Rattle.arith.specs.Sums.{from, upTo, from-append}
 use Rattle.particle.specs.declared.Particle.{Particle}
+use Rattle.particle.specs.Layout.{recordLength}
 use Rattle.particle.specs.Record.{particleOf}
-use Rattle.particles.specs.Set.{recordAt, recordCount}
+use Rattle.particles.proofs.Turns.{part-is}
+use Rattle.particles.specs.Set.{recordAt}
 use Rattle.report.specs.Lines.{particleLine, particleLines}
-use Rattle.report.specs.Internal.{Room, Put, linesUpTo}
-use Rattle.report.proofs.Puts.{put-none, put-then, room-first, room-second}
-use Rattle.report.proofs.Texts.{room-as, put-as}
+use Rattle.text.specs.Internal.{Room, Put}
+use Rattle.report.specs.Internal.{linesUpTo}
+use Rattle.text.proofs.Puts.{put-none, put-then, room-first, room-second}
+use Rattle.text.proofs.Texts.{room-as, put-as}
 
 -- the part of a slice that the code hands to the record reader
-pub the-record : (records : List ℕ) (k : ℕ) → take (14 * k + 14 - 14 * k) (drop (14 * k) records) ≡ recordAt 0 records k
-the-record records k = ap₂ (λ n m. take n (drop m records)) count (sym (zero-add (14 * k)))
-  where
-    count : 14 * k + 14 - 14 * k ≡ 14
-    count = omega arith
+pub the-record : (records : List ℕ) (k : ℕ) → take (recordLength * k + recordLength - recordLength * k) (drop (recordLength * k) records) ≡ recordAt 0 records k
+the-record records k = part-is (recordLength * k) records ∙ ap (λ m. take recordLength (drop m records)) (sym (zero-add (recordLength * k)))
 
 lines-append : (ps qs : List Particle) → particleLines (ps ++ qs) ≡ particleLines ps ++ particleLines qs
 unfolding particleLines

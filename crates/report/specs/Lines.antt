@@ -3,14 +3,8 @@
 use Prim.Native.Nat.{ℕ}
 use mathlib.Core.List.{List, [], _∷_, _++_}
 use Rattle.particle.specs.declared.Particle.{Particle}
-use Rattle.particles.specs.declared.Totals.{Totals}
-use Rattle.report.specs.Decimal.{bytesOf, decimal, signed}
-
-abbrev pub space : ℕ
-space = 32
-
-abbrev pub lineFeed : ℕ
-lineFeed = 10
+use Rattle.totals.specs.declared.Totals.{Totals}
+use Rattle.text.specs.Decimal.{bytesOf, space, lineFeed, decimal, signed}
 
 abbrev pub line : List (List ℕ) → List ℕ
 line [] = lineFeed ∷ []

@@ -1,12 +1,13 @@
 -- The whole text that the program prints, for each outcome, and what the function that fills the buffer answers.
 -- Assumes nothing.
-use Prim.Native.Nat.{ℕ}
+use Prim.Native.Nat.{ℕ, _+_, _*_}
 use mathlib.Core.Bool.{not}
 use mathlib.Core.List.{List, _++_}
 use lib.Dec.{ltb}
 use lib.ListN.{length, drop}
 use Rattle.refusal.specs.Refused.{Answer, result, refused, refusedBy, refuseIf, number, place}
-use Rattle.particles.specs.declared.Totals.{Totals}
+use Rattle.limits.specs.Limits.{mostRecords}
+use Rattle.totals.specs.declared.Totals.{Totals}
 use Rattle.particles.specs.Set.{particlesIn, validLength}
 use Rattle.report.specs.declared.Outcome.{Outcome}
 use Rattle.report.specs.declared.Outcome.the-variants.{Refused, Done, Stopped}
@@ -24,9 +25,15 @@ textOf (Refused e) records = refusedLine (number e) (place e)
 textOf (Done completed totals) records = runText completed 0 0 totals records
 textOf (Stopped completed e totals) records = runText completed (number e) (place e) totals records
 
--- the length of a buffer that every text fits
+-- the length of a buffer that every text fits: room for the first two lines, and for each record's
+abbrev pub headLength : ℕ
+headLength = 192
+
+abbrev pub lineLength : ℕ
+lineLength = 53
+
 abbrev pub reportLength : ℕ
-reportLength = 217280
+reportLength = headLength + lineLength * mostRecords
 
 -- 1 records that are not whole or too many, or a buffer that is too short; the result is the text's length
 unfoldable pub reportAnswer : Outcome → List ℕ → List ℕ → Answer ℕ

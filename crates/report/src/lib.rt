@@ -1,22 +1,28 @@
 // The text that the program prints, put into a buffer as a whole.
 mod line;
-mod number;
 
+use limits::MOST_RECORDS;
 use particle::RECORD_LENGTH;
-use particles::Totals;
 use refusal::Refusal;
+use totals::Totals;
 ghost use mathlib.Core.Path.{_≡_};
 ghost use mathlib.Core.Bool.{true};
 ghost use Prim.Native.Nat.{_+_, _*_, _≤_};
 ghost use lib.ListN.{length};
+ghost use Rattle.particle.specs.Layout.{recordLength};
 ghost use Rattle.particle.specs.Record.{particleOf};
 ghost use Rattle.particles.specs.Set.{validLength, recordAt, recordCount};
 ghost use Rattle.report.specs.Lines.{particleLine};
-ghost use Rattle.report.specs.Internal.{Room, Put, linesUpTo};
+ghost use Rattle.text.specs.Internal.{Room, Put};
+ghost use Rattle.report.specs.Internal.{linesUpTo};
 ghost use Rattle.report.specs.Report.{reportLength, runText, textOf, reportAnswer, filled, toldReported};
 
-// The length of a buffer that every report fits: 192 bytes for the first two lines, and 53 for each of 4096 records.
-pub const REPORT_LENGTH: usize = 217280;
+// The length of a buffer that every report fits: room for the first two lines, and for each record's.
+pub const REPORT_LENGTH: usize = HEAD_LENGTH + LINE_LENGTH * MOST_RECORDS;
+
+const HEAD_LENGTH: usize = 192;
+
+const LINE_LENGTH: usize = 53;
 
 // What the program has to tell.
 pub enum Outcome {
@@ -36,7 +42,7 @@ pub enum Reported {
 
 // The line of the record with index k. `put_records` calls it.
 fn put_record(out: &mut [u8], at: usize, records: &[u8], k: usize) -> usize
-    requires { ⌜ (14 * k + 14 ≤ length (now records)) × Room (now out) at (particleLine (particleOf (recordAt 0 (now records) k))) ⌝ }
+    requires { ⌜ (recordLength * k + recordLength ≤ length (now records)) × Room (now out) at (particleLine (particleOf (recordAt 0 (now records) k))) ⌝ }
     ensures { λ r. ⌜ Put (now (out .entry)) at (particleLine (particleOf (recordAt 0 (now (records .entry)) k))) (now (out .exit)) r ⌝ }
 {
     let start = RECORD_LENGTH * k;

@@ -1,26 +1,26 @@
 -- The shares of momentum of three nodes in a line, within their limits. Assumes nothing.
 use mathlib.Core.Path.{_≡_, _∙_}
 use mathlib.Core.List.{List}
-use Prim.Native.Nat.{ℕ, _+_, _≤_}
+use Prim.Native.Nat.{ℕ, _≤_}
 use lib.IntN.{ℤ, pos, _+ℤ_, _-ℤ_, _*ℤ_}
 use mir.Syntax.{w64}
 use mir.Val.{SFits, toZ, ofZ}
 use Rattle.arith.specs.Size.{Bound, sizes, size-given, fits, bounded}
 use Rattle.arith.specs.Machine.{read, read-natural, fits₂, result₂}
 use Rattle.grid_cells.specs.Cells.{addRow, RowLimits, mostAdded}
-use Rattle.scatter_block.specs.Lines.{momentumRow, MomentumLimits, mostMassWeight, mostSpeed, mostChange}
+use Rattle.scatter_block.specs.Lines.{momentumRow, MomentumLimits, mostMassWeight, mostSpeed, mostChange, mostRate}
 
-product-fits : (m : ℕ) (z : ℤ) → m ≤ mostMassWeight → Bound z (mostSpeed + mostChange) → SFits w64 (pos m *ℤ z)
+product-fits : (m : ℕ) (z : ℤ) → m ≤ mostMassWeight → Bound z mostRate → SFits w64 (pos m *ℤ z)
 product-fits m z h b = fits (search sizes depth 20) tt
 
-pub product-bound : (m : ℕ) (z : ℤ) → m ≤ mostMassWeight → Bound z (mostSpeed + mostChange) → Bound (pos m *ℤ z) mostAdded
+pub product-bound : (m : ℕ) (z : ℤ) → m ≤ mostMassWeight → Bound z mostRate → Bound (pos m *ℤ z) mostAdded
 product-bound m z h b = bounded (search sizes depth 20) tt
 
 -- the three factors, as meant
 pub record Factors (s b : ℤ) : Type 0 where
-  pub below : Bound (s -ℤ b) (mostSpeed + mostChange)
-  pub here : Bound s (mostSpeed + mostChange)
-  pub above : Bound (s +ℤ b) (mostSpeed + mostChange)
+  pub below : Bound (s -ℤ b) mostRate
+  pub here : Bound s mostRate
+  pub above : Bound (s +ℤ b) mostRate
   pub s-is : toZ w64 (ofZ w64 s) ≡ s
   pub b-is : toZ w64 (ofZ w64 b) ≡ b
 

@@ -7,6 +7,7 @@ use lib.ListN.{length}
 use lib.IntN.{ℤ, pos, _+ℤ_, _-ℤ_, _*ℤ_}
 use Rattle.arith.specs.Size.{Bound}
 use Rattle.spline.specs.declared.AxisWeights.{AxisWeights}
+use Rattle.spline.specs.Kernel.{mostD, WeightsMost}
 use Rattle.grid_cells.specs.Cells.{addRow, addMassRow, Cells, mostHeld}
 
 -- ---- a line
@@ -16,15 +17,23 @@ unfoldable pub momentumRow : List ℤ → ℕ → ℕ → ℕ → ℕ → ℤ �
 momentumRow l k lower nearest upper s b =
     addRow l k (pos lower *ℤ (s -ℤ b)) (pos nearest *ℤ s) (pos upper *ℤ (s +ℤ b))
 
--- the most of mass times weight, of s and of b
+-- the most of mass times weight
 abbrev pub mostMassWeight : ℕ
 mostMassWeight = 1023 * 67108864
 
-abbrev pub mostSpeed : ℕ
-mostSpeed = 326528
-
+-- the most of b, 64 times an entry of B; of s at the nearest node, which is D·v and two entries of B times at most 32; of s
+-- one line from it; and of s at any of the nine nodes
 abbrev pub mostChange : ℕ
-mostChange = 131008
+mostChange = 64 * 2047
+
+abbrev pub mostMiddle : ℕ
+mostMiddle = mostD * 63 + 2 * (2047 * 32)
+
+abbrev pub mostSpeed : ℕ
+mostSpeed = mostMiddle + mostChange
+
+abbrev pub mostRate : ℕ
+mostRate = mostSpeed + mostChange
 
 pub record MomentumLimits (l : List ℤ) (k lower nearest upper : ℕ) (s b : ℤ) : Type 0 where
   pub low : 1 ≤ k
@@ -44,11 +53,6 @@ pub record Held (n size : ℕ) (mass : List ℕ) (px py : List ℤ) : Type 0 whe
   pub mass-cells : Cells n (map pos mass)
   pub px-cells : Cells n px
   pub py-cells : Cells n py
-
-pub record WeightsMost (w : AxisWeights) : Type 0 where
-  pub lower-most : w .lower ≤ 8192
-  pub nearest-most : w .nearest ≤ 8192
-  pub upper-most : w .upper ≤ 8192
 
 -- a line around cell k, with what is added to it
 pub record LineNumbers (size k c : ℕ) (w : AxisWeights) (sx bx sy by : ℤ) : Type 0 where
@@ -78,12 +82,9 @@ pub record LineAdded (mass : List ℕ) (px py : List ℤ) (mass′ : List ℕ) (
 
 -- ---- a block
 
--- the most that a cell may hold before a block is added, and the most of s at the block's middle
+-- the most that a cell may hold before a block is added
 abbrev pub mostBefore : ℕ
 mostBefore = 8700000000000000000
-
-abbrev pub mostMiddle : ℕ
-mostMiddle = 195520
 
 pub record BlockLimits (size nx : ℕ) (mass : List ℕ) (px py : List ℤ) (k m : ℕ) (wx wy : AxisWeights) (sx bxx bxy sy byx byy : ℤ) : Type 0 where
   pub low : nx + 1 ≤ k

@@ -14,6 +14,7 @@ use Rattle.arith.specs.Order.{linear, reading}
 use Rattle.arith.specs.Size.{Bound, sizes, fits, size-given, bound-equal, within-bound}
 use Rattle.arith.specs.Machine.{read, read-natural, fits₂, result₂}
 use Rattle.spline.specs.Spline.{nearestNode, displacement}
+use Rattle.spline.specs.Kernel.{mostD}
 use Rattle.scatter_particle.specs.Added.{Middle, SpeedLimits}
 
 -- ---- the nearest node minus particle
@@ -46,23 +47,27 @@ module _ (x : ℕ) where
 
 -- ---- the momentum per mass and weight
 
-pub record SpeedFacts (v bx by dx dy : ℤ) : Type 0 where
-  pub v-fits : SFits w64 (pos 1024 *ℤ (toZ w64 (ofZ w64 v)))
-  pub x-fits : SFits w64 ((toZ w64 (ofZ w64 bx)) *ℤ (toZ w64 (ofZ w64 dx)))
-  pub half-fits : SFits w64 (toZ w64 (ofZ w64 (pos 1024 *ℤ (toZ w64 (ofZ w64 v)))) +ℤ toZ w64 (ofZ w64 ((toZ w64 (ofZ w64 bx)) *ℤ (toZ w64 (ofZ w64 dx)))))
-  pub y-fits : SFits w64 ((toZ w64 (ofZ w64 by)) *ℤ (toZ w64 (ofZ w64 dy)))
-  pub whole-fits : SFits w64 (toZ w64 (ofZ w64 (toZ w64 (ofZ w64 (pos 1024 *ℤ (toZ w64 (ofZ w64 v)))) +ℤ toZ w64 (ofZ w64 ((toZ w64 (ofZ w64 bx)) *ℤ (toZ w64 (ofZ w64 dx)))))) +ℤ toZ w64 (ofZ w64 ((toZ w64 (ofZ w64 by)) *ℤ (toZ w64 (ofZ w64 dy)))))
-  pub is : toZ w64 (ofZ w64 (toZ w64 (ofZ w64 (toZ w64 (ofZ w64 (pos 1024 *ℤ (toZ w64 (ofZ w64 v)))) +ℤ toZ w64 (ofZ w64 ((toZ w64 (ofZ w64 bx)) *ℤ (toZ w64 (ofZ w64 dx)))))) +ℤ toZ w64 (ofZ w64 ((toZ w64 (ofZ w64 by)) *ℤ (toZ w64 (ofZ w64 dy)))))) ≡ pos 1024 *ℤ v +ℤ bx *ℤ dx +ℤ by *ℤ dy
+-- a number as the machine holds it
+abbrev held : ℤ → ℤ
+held z = toZ w64 (ofZ w64 z)
 
-record SpeedFits (v bx by dx dy : ℤ) : Type 0 where
-  one : SFits w64 (pos 1024 *ℤ v)
+pub record SpeedFacts (D : ℕ) (v bx by dx dy : ℤ) : Type 0 where
+  pub v-fits : SFits w64 (toZ w64 D *ℤ held v)
+  pub x-fits : SFits w64 (held bx *ℤ held dx)
+  pub half-fits : SFits w64 (held (toZ w64 D *ℤ held v) +ℤ held (held bx *ℤ held dx))
+  pub y-fits : SFits w64 (held by *ℤ held dy)
+  pub whole-fits : SFits w64 (held (held (toZ w64 D *ℤ held v) +ℤ held (held bx *ℤ held dx)) +ℤ held (held by *ℤ held dy))
+  pub is : held (held (held (toZ w64 D *ℤ held v) +ℤ held (held bx *ℤ held dx)) +ℤ held (held by *ℤ held dy)) ≡ pos D *ℤ v +ℤ bx *ℤ dx +ℤ by *ℤ dy
+
+record SpeedFits (D : ℕ) (v bx by dx dy : ℤ) : Type 0 where
+  one : SFits w64 (pos D *ℤ v)
   two : SFits w64 (bx *ℤ dx)
-  three : SFits w64 (pos 1024 *ℤ v +ℤ bx *ℤ dx)
+  three : SFits w64 (pos D *ℤ v +ℤ bx *ℤ dx)
   four : SFits w64 (by *ℤ dy)
-  five : SFits w64 (pos 1024 *ℤ v +ℤ bx *ℤ dx +ℤ by *ℤ dy)
+  five : SFits w64 (pos D *ℤ v +ℤ bx *ℤ dx +ℤ by *ℤ dy)
 
-speed-fits : (v bx by dx dy : ℤ) → Bound v 63 → Bound bx 2047 → Bound by 2047 → Bound dx 32 → Bound dy 32 → SpeedFits v bx by dx dy
-speed-fits v bx by dx dy p q r s t =
+speed-fits : (D : ℕ) (v bx by dx dy : ℤ) → D ≤ mostD → Bound v 63 → Bound bx 2047 → Bound by 2047 → Bound dx 32 → Bound dy 32 → SpeedFits D v bx by dx dy
+speed-fits D v bx by dx dy h p q r s t =
     record {
       one = fits (search sizes depth 20) tt;
       two = fits (search sizes depth 20) tt;
@@ -71,20 +76,21 @@ speed-fits v bx by dx dy p q r s t =
       five = fits (search sizes depth 20) tt;
     }
 
-pub speed-facts : {v bx by dx dy : ℤ} → SpeedLimits v bx by dx dy → SpeedFacts v bx by dx dy
-speed-facts {v} {bx} {by} {dx} {dy} l =
-    let f = speed-fits v bx by dx dy (l .v-most) (l .bx-most) (l .by-most) (l .dx-most) (l .dy-most) in
+pub speed-facts : {D : ℕ} {v bx by dx dy : ℤ} → SpeedLimits D v bx by dx dy → SpeedFacts D v bx by dx dy
+speed-facts {D} {v} {bx} {by} {dx} {dy} l =
+    let f = speed-fits D v bx by dx dy (l .D-most) (l .v-most) (l .bx-most) (l .by-most) (l .dx-most) (l .dy-most) in
+    let D-is = read-natural w64 (l .D-most) tt in
     let v-is = read w64 (l .v-most) tt in
     let bx-is = read w64 (l .bx-most) tt in
     let by-is = read w64 (l .by-most) tt in
     let dx-is = read w64 (l .dx-most) tt in
     let dy-is = read w64 (l .dy-most) tt in
-    let a = result₂ _*ℤ_ (refl {a = pos 1024}) v-is (f .one) in
+    let a = result₂ _*ℤ_ D-is v-is (f .one) in
     let b = result₂ _*ℤ_ bx-is dx-is (f .two) in
     let c = result₂ _+ℤ_ a b (f .three) in
     let d = result₂ _*ℤ_ by-is dy-is (f .four) in
     record {
-      v-fits = fits₂ _*ℤ_ (refl {a = pos 1024}) v-is (f .one);
+      v-fits = fits₂ _*ℤ_ D-is v-is (f .one);
       x-fits = fits₂ _*ℤ_ bx-is dx-is (f .two);
       half-fits = fits₂ _+ℤ_ a b (f .three);
       y-fits = fits₂ _*ℤ_ by-is dy-is (f .four);

@@ -1,4 +1,4 @@
--- What a block adds, node by node: a particle's shares of mass and of momentum under the spline's weights.
+-- What a block adds, node by node: a particle's shares of mass and of momentum under the weights of a table.
 --     momentum-shares    of momentum along one axis
 --     mass-shares        of mass
 -- Assumes nothing.
@@ -10,20 +10,15 @@ use lib.ListN.{length, length-map}
 use lib.IntN.{ℤ, pos, _+ℤ_, _-ℤ_, _*ℤ_}
 use Rattle.arith.specs.Order.{linear, reading}
 use Rattle.arith.specs.Solver.{ring, quote}
-use Rattle.spline.specs.Spline.{nearestNode, displacement, axisWeight}
+use Rattle.spline.specs.Spline.{nearestNode, displacement}
+use Rattle.spline.specs.Kernel.{weightsAt, weightIn}
 use Rattle.spline.specs.declared.AxisWeights.{AxisWeights}
 use Rattle.spline.proofs.Axis.{Touched}
 use Rattle.grid_cells.specs.Cells.{addRow}
 use Rattle.grid_cells.specs.Plus.{plus}
-use Rattle.grid_cells.proofs.Spots.{three, masses-row}
+use Rattle.grid_cells.proofs.Spots.{masses-row}
 use Rattle.grid_cells.proofs.Grids.{block-plus}
 use Rattle.scatter_block.specs.Lines.{massLine, momentumRow, momentumLine, massBlock, momentumBlock}
-use Rattle.scatter_particle.proofs.Weights.{WeightsOf}
-
--- the axis's weights are three numbers of the table
-axis-three : {x : ℕ} {w : AxisWeights} → WeightsOf x w → (i : ℕ) → three (nearestNode x) (pos (w .lower)) (pos (w .nearest)) (pos (w .upper)) i ≡ axisWeight x i
-unfolding axisWeight three
-axis-three {x} o i = λ t. three (nearestNode x) (o .lower t) (o .nearest t) (o .upper t) i
 
 -- ---- one node apart
 
@@ -33,17 +28,18 @@ apart-lower x c h = linear [] (tt {0}) (search reading depth 30) (omega arith)
 apart-upper : (x c : ℕ) → displacement x c +ℤ pos 64 ≡ displacement x (c + 1)
 apart-upper x c = linear [] (tt {0}) (search reading depth 30) (omega arith)
 
-x-lower : (v bx by d e : ℤ) → pos 1024 *ℤ v +ℤ bx *ℤ d +ℤ by *ℤ e -ℤ pos 64 *ℤ bx ≡ pos 1024 *ℤ v +ℤ bx *ℤ (d -ℤ pos 64) +ℤ by *ℤ e
-x-lower v bx by d e = ring (v ∷ bx ∷ by ∷ d ∷ e ∷ []) (search quote depth 30) (search quote depth 30) tt
+-- s and two entries of B with the places of a node, and of the one before or after it
+x-lower : (s bx by d e : ℤ) → s +ℤ bx *ℤ d +ℤ by *ℤ e -ℤ pos 64 *ℤ bx ≡ s +ℤ bx *ℤ (d -ℤ pos 64) +ℤ by *ℤ e
+x-lower s bx by d e = ring (s ∷ bx ∷ by ∷ d ∷ e ∷ []) (search quote depth 30) (search quote depth 30) tt
 
-x-upper : (v bx by d e : ℤ) → pos 1024 *ℤ v +ℤ bx *ℤ d +ℤ by *ℤ e +ℤ pos 64 *ℤ bx ≡ pos 1024 *ℤ v +ℤ bx *ℤ (d +ℤ pos 64) +ℤ by *ℤ e
-x-upper v bx by d e = ring (v ∷ bx ∷ by ∷ d ∷ e ∷ []) (search quote depth 30) (search quote depth 30) tt
+x-upper : (s bx by d e : ℤ) → s +ℤ bx *ℤ d +ℤ by *ℤ e +ℤ pos 64 *ℤ bx ≡ s +ℤ bx *ℤ (d +ℤ pos 64) +ℤ by *ℤ e
+x-upper s bx by d e = ring (s ∷ bx ∷ by ∷ d ∷ e ∷ []) (search quote depth 30) (search quote depth 30) tt
 
-y-lower : (v bx by d e : ℤ) → pos 1024 *ℤ v +ℤ bx *ℤ d +ℤ by *ℤ e -ℤ pos 64 *ℤ by ≡ pos 1024 *ℤ v +ℤ bx *ℤ d +ℤ by *ℤ (e -ℤ pos 64)
-y-lower v bx by d e = ring (v ∷ bx ∷ by ∷ d ∷ e ∷ []) (search quote depth 30) (search quote depth 30) tt
+y-lower : (s bx by d e : ℤ) → s +ℤ bx *ℤ d +ℤ by *ℤ e -ℤ pos 64 *ℤ by ≡ s +ℤ bx *ℤ d +ℤ by *ℤ (e -ℤ pos 64)
+y-lower s bx by d e = ring (s ∷ bx ∷ by ∷ d ∷ e ∷ []) (search quote depth 30) (search quote depth 30) tt
 
-y-upper : (v bx by d e : ℤ) → pos 1024 *ℤ v +ℤ bx *ℤ d +ℤ by *ℤ e +ℤ pos 64 *ℤ by ≡ pos 1024 *ℤ v +ℤ bx *ℤ d +ℤ by *ℤ (e +ℤ pos 64)
-y-upper v bx by d e = ring (v ∷ bx ∷ by ∷ d ∷ e ∷ []) (search quote depth 30) (search quote depth 30) tt
+y-upper : (s bx by d e : ℤ) → s +ℤ bx *ℤ d +ℤ by *ℤ e +ℤ pos 64 *ℤ by ≡ s +ℤ bx *ℤ d +ℤ by *ℤ (e +ℤ pos 64)
+y-upper s bx by d e = ring (s ∷ bx ∷ by ∷ d ∷ e ∷ []) (search quote depth 30) (search quote depth 30) tt
 
 -- ---- a share, in the order of the code and in that of the definition
 
@@ -53,13 +49,19 @@ mass-share m u w = ring (pos m ∷ pos u ∷ pos w ∷ []) (search quote depth 3
 share : (m u w : ℕ) {s t : ℤ} → s ≡ t → pos (m * w * u) *ℤ s ≡ pos m *ℤ (pos u *ℤ pos w) *ℤ t
 share m u w {s} {t} e = λ i. mass-share m u w i *ℤ e i
 
-module _ (nx ny m x y : ℕ) (x-on : Touched nx x) (y-on : Touched ny y) {wx wy : AxisWeights} (ox : WeightsOf x wx) (oy : WeightsOf y wy) where
+module _ (table : List (List ℕ)) (nx ny m x y : ℕ) (x-on : Touched nx x) (y-on : Touched ny y) where
+  abbrev wx : AxisWeights
+  wx = weightsAt table x
+
+  abbrev wy : AxisWeights
+  wy = weightsAt table y
+
   -- ---- momentum
 
-  module _ (v bx by : ℤ) where
+  module _ (D : ℕ) (v bx by : ℤ) where
     -- the momentum per mass and weight at node (i, j)
     rate : ℕ → ℕ → ℤ
-    rate i j = pos 1024 *ℤ v +ℤ bx *ℤ displacement x i +ℤ by *ℤ displacement y j
+    rate i j = pos D *ℤ v +ℤ bx *ℤ displacement x i +ℤ by *ℤ displacement y j
 
     shared : ℕ → ℕ → ℤ → ℤ → ℤ
     shared i j u w = pos m *ℤ (u *ℤ w) *ℤ rate i j
@@ -77,18 +79,18 @@ module _ (nx ny m x y : ℕ) (x-on : Touched nx x) (y-on : Touched ny y) {wx wy 
     line-shares l k j w {s} {b} e f =
         λ t. addRow l k (share m (wx .lower) w lower t) (share m (wx .nearest) w e t) (share m (wx .upper) w upper t)
       where
-        lower : s -ℤ b ≡ pos 1024 *ℤ v +ℤ bx *ℤ displacement x (nearestNode x - 1) +ℤ by *ℤ displacement y j
+        lower : s -ℤ b ≡ pos D *ℤ v +ℤ bx *ℤ displacement x (nearestNode x - 1) +ℤ by *ℤ displacement y j
         lower =
-            (λ t. e t -ℤ f t) ∙ x-lower v bx by (displacement x (nearestNode x)) (displacement y j)
-            ∙ ap (λ d. pos 1024 *ℤ v +ℤ bx *ℤ d +ℤ by *ℤ displacement y j) (apart-lower x (nearestNode x) (x-on .low))
+            (λ t. e t -ℤ f t) ∙ x-lower (pos D *ℤ v) bx by (displacement x (nearestNode x)) (displacement y j)
+            ∙ ap (λ d. pos D *ℤ v +ℤ bx *ℤ d +ℤ by *ℤ displacement y j) (apart-lower x (nearestNode x) (x-on .low))
 
-        upper : s +ℤ b ≡ pos 1024 *ℤ v +ℤ bx *ℤ displacement x (nearestNode x + 1) +ℤ by *ℤ displacement y j
+        upper : s +ℤ b ≡ pos D *ℤ v +ℤ bx *ℤ displacement x (nearestNode x + 1) +ℤ by *ℤ displacement y j
         upper =
-            (λ t. e t +ℤ f t) ∙ x-upper v bx by (displacement x (nearestNode x)) (displacement y j)
-            ∙ ap (λ d. pos 1024 *ℤ v +ℤ bx *ℤ d +ℤ by *ℤ displacement y j) (apart-upper x (nearestNode x))
+            (λ t. e t +ℤ f t) ∙ x-upper (pos D *ℤ v) bx by (displacement x (nearestNode x)) (displacement y j)
+            ∙ ap (λ d. pos D *ℤ v +ℤ bx *ℤ d +ℤ by *ℤ displacement y j) (apart-upper x (nearestNode x))
 
-    pub momentum-shares : (l l′ : List ℤ) {s b c : ℤ} → s ≡ pos 1024 *ℤ v +ℤ bx *ℤ displacement x (nearestNode x) +ℤ by *ℤ displacement y (nearestNode y) → b ≡ pos 64 *ℤ bx → c ≡ pos 64 *ℤ by → length l ≡ nx * ny → l′ ≡ momentumBlock nx l (nearestNode y * nx + nearestNode x) m wx wy s b c → l′ ≡ plus nx ny l (λ i j. pos m *ℤ (axisWeight x i *ℤ axisWeight y j) *ℤ (pos 1024 *ℤ v +ℤ bx *ℤ displacement x i +ℤ by *ℤ displacement y j))
-    unfolding momentumBlock shared rate
+    pub momentum-shares : (l l′ : List ℤ) {s b c : ℤ} → s ≡ pos D *ℤ v +ℤ bx *ℤ displacement x (nearestNode x) +ℤ by *ℤ displacement y (nearestNode y) → b ≡ pos 64 *ℤ bx → c ≡ pos 64 *ℤ by → length l ≡ nx * ny → l′ ≡ momentumBlock nx l (nearestNode y * nx + nearestNode x) m wx wy s b c → l′ ≡ plus nx ny l (λ i j. pos m *ℤ (weightIn table x i *ℤ weightIn table y j) *ℤ (pos D *ℤ v +ℤ bx *ℤ displacement x i +ℤ by *ℤ displacement y j))
+    unfolding momentumBlock shared rate weightIn
     momentum-shares l l′ {s} {b} {c} e f g long is =
         block-plus nx ny (nearestNode x) (nearestNode y) (x-on .low) (x-on .high) (y-on .low) (y-on .high) shared x-keeps y-keeps
         (pos (wx .lower)) (pos (wx .nearest)) (pos (wx .upper)) (pos (wy .lower)) (pos (wy .nearest)) (pos (wy .upper))
@@ -96,7 +98,6 @@ module _ (nx ny m x y : ℕ) (x-on : Touched nx x) (y-on : Touched ny y) {wx wy 
         (line-shares l (nearestNode y * nx + nearestNode x - nx) (nearestNode y - 1) (wy .lower) below f)
         (line-shares l1 (nearestNode y * nx + nearestNode x) (nearestNode y) (wy .nearest) e f)
         (is ∙ line-shares l2 (nearestNode y * nx + nearestNode x + nx) (nearestNode y + 1) (wy .upper) above f)
-        ∙ (λ t. plus nx ny l (λ i j. shared i j (axis-three ox i t) (axis-three oy j t)))
       where
         l1 : List ℤ
         l1 = momentumLine l (nearestNode y * nx + nearestNode x - nx) (m * wy .lower) wx (s -ℤ c) b
@@ -104,15 +105,15 @@ module _ (nx ny m x y : ℕ) (x-on : Touched nx x) (y-on : Touched ny y) {wx wy 
         l2 : List ℤ
         l2 = momentumLine l1 (nearestNode y * nx + nearestNode x) (m * wy .nearest) wx s b
 
-        below : s -ℤ c ≡ pos 1024 *ℤ v +ℤ bx *ℤ displacement x (nearestNode x) +ℤ by *ℤ displacement y (nearestNode y - 1)
+        below : s -ℤ c ≡ pos D *ℤ v +ℤ bx *ℤ displacement x (nearestNode x) +ℤ by *ℤ displacement y (nearestNode y - 1)
         below =
-            (λ t. e t -ℤ g t) ∙ y-lower v bx by (displacement x (nearestNode x)) (displacement y (nearestNode y))
-            ∙ ap (λ d. pos 1024 *ℤ v +ℤ bx *ℤ displacement x (nearestNode x) +ℤ by *ℤ d) (apart-lower y (nearestNode y) (y-on .low))
+            (λ t. e t -ℤ g t) ∙ y-lower (pos D *ℤ v) bx by (displacement x (nearestNode x)) (displacement y (nearestNode y))
+            ∙ ap (λ d. pos D *ℤ v +ℤ bx *ℤ displacement x (nearestNode x) +ℤ by *ℤ d) (apart-lower y (nearestNode y) (y-on .low))
 
-        above : s +ℤ c ≡ pos 1024 *ℤ v +ℤ bx *ℤ displacement x (nearestNode x) +ℤ by *ℤ displacement y (nearestNode y + 1)
+        above : s +ℤ c ≡ pos D *ℤ v +ℤ bx *ℤ displacement x (nearestNode x) +ℤ by *ℤ displacement y (nearestNode y + 1)
         above =
-            (λ t. e t +ℤ g t) ∙ y-upper v bx by (displacement x (nearestNode x)) (displacement y (nearestNode y))
-            ∙ ap (λ d. pos 1024 *ℤ v +ℤ bx *ℤ displacement x (nearestNode x) +ℤ by *ℤ d) (apart-upper y (nearestNode y))
+            (λ t. e t +ℤ g t) ∙ y-upper (pos D *ℤ v) bx by (displacement x (nearestNode x)) (displacement y (nearestNode y))
+            ∙ ap (λ d. pos D *ℤ v +ℤ bx *ℤ displacement x (nearestNode x) +ℤ by *ℤ d) (apart-upper y (nearestNode y))
 
   -- ---- mass
 
@@ -133,8 +134,8 @@ module _ (nx ny m x y : ℕ) (x-on : Touched nx x) (y-on : Touched ny y) {wx wy 
   unfolding weighed
   mass-y-keeps i j u = ring (pos m ∷ u ∷ []) (search quote depth 30) (search quote depth 30) tt
 
-  pub mass-shares : (l l′ : List ℕ) → length l ≡ nx * ny → l′ ≡ massBlock nx l (nearestNode y * nx + nearestNode x) m wx wy → map pos l′ ≡ plus nx ny (map pos l) (λ i j. pos m *ℤ (axisWeight x i *ℤ axisWeight y j))
-  unfolding massBlock weighed
+  pub mass-shares : (l l′ : List ℕ) → length l ≡ nx * ny → l′ ≡ massBlock nx l (nearestNode y * nx + nearestNode x) m wx wy → map pos l′ ≡ plus nx ny (map pos l) (λ i j. pos m *ℤ (weightIn table x i *ℤ weightIn table y j))
+  unfolding massBlock weighed weightIn
   mass-shares l l′ long is =
       block-plus nx ny (nearestNode x) (nearestNode y) (x-on .low) (x-on .high) (y-on .low) (y-on .high) weighed mass-x-keeps mass-y-keeps
       (pos (wx .lower)) (pos (wx .nearest)) (pos (wx .upper)) (pos (wy .lower)) (pos (wy .nearest)) (pos (wy .upper))
@@ -142,7 +143,6 @@ module _ (nx ny m x y : ℕ) (x-on : Touched nx x) (y-on : Touched ny y) {wx wy 
       (mass-line l (nearestNode y * nx + nearestNode x - nx) (nearestNode y - 1) (wy .lower))
       (mass-line l1 (nearestNode y * nx + nearestNode x) (nearestNode y) (wy .nearest))
       (ap (map pos) is ∙ mass-line l2 (nearestNode y * nx + nearestNode x + nx) (nearestNode y + 1) (wy .upper))
-      ∙ (λ t. plus nx ny (map pos l) (λ i j. weighed i j (axis-three ox i t) (axis-three oy j t)))
     where
       l1 : List ℕ
       l1 = massLine l (nearestNode y * nx + nearestNode x - nx) (m * wy .lower) wx

@@ -4,6 +4,7 @@ ghost use mathlib.Core.List.{[], _∷_};
 ghost use Prim.Native.Nat.{_≤_};
 ghost use lib.IntN.{pos, _+ℤ_, _*ℤ_};
 ghost use Rattle.arith.specs.Size.{Bound};
+ghost use Rattle.spline.specs.Kernel.{weightIn};
 ghost use Rattle.scatter_particle.specs.Added.{Added, ParticleReady, unidentified, Middle, SpeedLimits};
 
 // The nearest node minus particle, along one axis.
@@ -15,11 +16,11 @@ fn middle(x: usize) -> i64
 }
 
 // A particle's momentum per mass and weight at the node that is dx and dy from it.
-fn speed(v: i64, bx: i64, by: i64, dx: i64, dy: i64) -> i64
-    requires { ⌜ SpeedLimits v bx by dx dy ⌝ }
-    ensures { λ r. ⌜ r ≡ pos 1024 *ℤ v +ℤ bx *ℤ dx +ℤ by *ℤ dy ⌝ }
+fn speed(d: u64, v: i64, bx: i64, by: i64, dx: i64, dy: i64) -> i64
+    requires { ⌜ SpeedLimits d v bx by dx dy ⌝ }
+    ensures { λ r. ⌜ r ≡ pos d *ℤ v +ℤ bx *ℤ dx +ℤ by *ℤ dy ⌝ }
 {
-    1024 * v + bx * dx + by * dy
+    (d as i64) * v + bx * dx + by * dy
 }
 
 // What an entry of B adds from a node to its neighbour.
@@ -30,7 +31,8 @@ fn spread(b: i64) -> i64
     64 * b
 }
 
-// Adds one particle's shares to the nine nodes around it. `scatter_core` calls it.
+// Adds one particle's shares to the nine nodes around it, with the weights of the table that the caller lends and its D.
+// `scatter_core` calls it.
 pub fn add_particle(
     m: u64,
     x: usize,
@@ -44,19 +46,20 @@ pub fn add_particle(
     nx: usize,
     ny: usize,
     table: &[[u16; 3]; 64],
+    d: u64,
     mass: &mut [u64],
     px: &mut [i64],
     py: &mut [i64],
 )
-    requires { ⌜ ParticleReady nx ny (unidentified m x y vx vy bxx bxy byx byy) (now table) (now mass) (now px) (now py) ⌝ }
-    ensures { λ r. ⌜ Added nx ny (unidentified m x y vx vy bxx bxy byx byy ∷ []) (now (mass .entry)) (now (px .entry)) (now (py .entry)) (now (mass .exit)) (now (px .exit)) (now (py .exit)) ⌝ }
+    requires { ⌜ ParticleReady nx ny (unidentified m x y vx vy bxx bxy byx byy) (now table) d (now mass) (now px) (now py) ⌝ }
+    ensures { λ r. ⌜ Added (weightIn (now (table .entry))) d nx ny (unidentified m x y vx vy bxx bxy byx byy ∷ []) (now (mass .entry)) (now (px .entry)) (now (py .entry)) (now (mass .exit)) (now (px .exit)) (now (py .exit)) ⌝ }
 {
-    let wx = spline::row(table, (x + 32) % 64);
-    let wy = spline::row(table, (y + 32) % 64);
+    let wx = spline::weights_at(table, x);
+    let wy = spline::weights_at(table, y);
     let dx = middle(x);
     let dy = middle(y);
-    let sx = speed(vx, bxx, bxy, dx, dy);
-    let sy = speed(vy, byx, byy, dx, dy);
+    let sx = speed(d, vx, bxx, bxy, dx, dy);
+    let sy = speed(d, vy, byx, byy, dx, dy);
     let k = (y + 32) / 64 * nx + (x + 32) / 64;
     scatter_block::add_block(
         mass,

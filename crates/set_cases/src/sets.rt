@@ -8,8 +8,8 @@ use crate::writing;
 use particle::Particle;
 use particle::RECORD_LENGTH;
 use particles::Checked;
-use particles::Totalled;
-use particles::Totals;
+use totals::Totalled;
+use totals::Totals;
 
 fn show(totals: Totals) {
     lines::word(b"mass");
@@ -36,7 +36,7 @@ fn check(nx: usize, ny: usize, records: &[u8]) {
 }
 
 fn total(nx: usize, ny: usize, records: &[u8]) {
-    match particles::set_totals(nx, ny, records) {
+    match totals::set_totals(nx, ny, records) {
         Totalled::Sums(totals) => show(totals),
         Totalled::Refused(refusal) => lines::refused(refusal),
     }

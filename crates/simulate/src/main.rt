@@ -1,7 +1,5 @@
 // Reads a bath file from standard input, runs it and prints the report of document 01's "The program".
 // Standard error gets one line where the file is refused, or the input or the report fails; `run` answers with it.
-mod streams;
-
 use libc::STDERR_FILENO;
 use libc::STDIN_FILENO;
 use libc::STDOUT_FILENO;

@@ -10,25 +10,23 @@
 --     calls-number     as many steps as the calls say
 -- Assumes nothing.
 use mathlib.Core.Path.{_≡_, refl, sym, ap, _∙_, subst}
-use mathlib.Core.Bool.{true, not}
 use mathlib.Core.List.{List, [], _∷_, _++_}
-use Prim.Native.Nat.{ℕ, zero, suc, _+_, _*_}
-use lib.Dec.{ltb}
+use Prim.Native.Nat.{ℕ, zero, suc, _+_}
 use lib.ListN.{length, replicate, length-append, length-replicate}
-use borrow.Author.Tests.{not-false}
-use Rattle.refusal.specs.Refused.{Answer, result, refused, refuseIf, either}
-use Rattle.refusal.proofs.Answers.{passed}
+use Rattle.refusal.specs.Refused.{Answer, result, refused, either}
 use Rattle.particle.specs.declared.Particle.{Particle}
 use Rattle.apic.specs.Limits.{SetLimits}
-use Rattle.particles.specs.Set.{validSize, validLength, recordsOf, particlesIn}
-use Rattle.particles.proofs.Checks.{good-entry}
+use Rattle.particles.specs.Set.{recordsOf, particlesIn}
 use Rattle.particles.proofs.Accepted.{accepted-limits}
-use Rattle.update.specs.Checks.{lengthsAre, bothWithin}
-use Rattle.simulation.specs.declared.Settings.{Settings}
-use Rattle.simulation.specs.Step.{Grids, After, checkEntry, setIn, stepped, stepOf, nodesOf, stepEntry, stepFrom, stepAfter}
+use Rattle.packing.proofs.Sets.{particlesIn-accepted}
+use Rattle.entry.specs.Entry.{entryAnswer}
+use Rattle.entry.proofs.Entry.{accepted}
+use Rattle.settings.specs.declared.Settings.{Settings}
+use Rattle.apic.specs.Step.{Grids}
+use Rattle.simulation.specs.Step.{After, buffersOf, stepped, stepOf, nodesOf, stepEntry, stepFrom, stepAfter}
 use Rattle.simulation.specs.Run.{Completion, runFrom, runEntry, runAfter}
 use Rattle.simulation.specs.Demand3.{Accepted, Call, step, run, settingsOf, leaves, completes, leavesAll, completesAll, settingsAll, arrives}
-use Rattle.simulation.proofs.Records.{set-particles, records-particles, records-accepted}
+use Rattle.simulation.proofs.Records.{records-particles, records-accepted}
 use Rattle.simulation.proofs.Steps.{step-result, completed, limits-after}
 use Rattle.simulation.proofs.Chains.{Chain, chain-append, arrives-append}
 
@@ -55,34 +53,22 @@ works-append {ss} {ts} {a} v w =
 
 -- ---- entry
 
-module _ {A : Type 0} (s : Settings) (records : List ℕ) (grids : Grids) (rest : Answer A) where
-  entry-passed : {a : A} → checkEntry s records grids rest ≡ result a → (validSize (s .nx) (s .ny) ≡ true) × (validLength (length records) ≡ true) × (rest ≡ result a)
-  entry-passed e =
-      let size = passed (not (validSize (s .nx) (s .ny))) 2 0 _ e in
-      let whole = passed (not (validLength (length records))) 1 0 _ (size .1) in
-      let long = passed (not (lengthsAre (s .nx * s .ny) (length (grids .mass)) (length (grids .x)) (length (grids .y)))) 1 0 _ (whole .1) in
-      let light = passed (not (bothWithin 4096 (s .gx) (s .gy))) 10 0 rest (long .1) in
-      (not-false (validSize (s .nx) (s .ny)) (size .0), not-false (validLength (length records)) (whole .0), light .1)
-
 module _ (s : Settings) (records : List ℕ) where
-  ready-set : {ps : List Particle} → validSize (s .nx) (s .ny) ≡ true → validLength (length records) ≡ true → setIn s records ≡ result ps → Ready s records ps
-  ready-set size whole e =
+  ready-entry : (grids : Grids) (steps : ℕ) {ps : List Particle} → entryAnswer s (buffersOf grids) steps records ≡ result ps → Ready s records ps
+  ready-entry grids steps e =
+      let a = accepted s (buffersOf grids) steps records e in
       record {
-        holds = set-particles (s .nx) (s .ny) records e;
-        limits = accepted-limits (s .nx) (s .ny) records (good-entry (s .nx) (s .ny) records size whole ∙ e);
+        holds = particlesIn-accepted (s .nx) (s .ny) records (a .set);
+        limits = accepted-limits (s .nx) (s .ny) records (a .set);
       }
 
   pub ready-step : (grids : Grids) {ps : List Particle} → stepEntry s records grids ≡ result ps → Ready s records ps
   unfolding stepEntry
-  ready-step grids e =
-      let h = entry-passed s records grids (setIn s records) e in
-      ready-set (h .0) (h .1) (h .2)
+  ready-step grids e = ready-entry grids 0 e
 
   pub ready-run : (steps : ℕ) (grids : Grids) {ps : List Particle} → runEntry s steps records grids ≡ result ps → Ready s records ps
   unfolding runEntry
-  ready-run steps grids e =
-      let h = entry-passed s records grids (refuseIf (ltb 10000 steps) 17 0 (setIn s records)) e in
-      ready-set (h .0) (h .1) (passed (ltb 10000 steps) 17 0 (setIn s records) (h .2) .1)
+  ready-run steps grids e = ready-entry grids steps e
 
 -- ---- one step
 

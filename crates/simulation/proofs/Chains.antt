@@ -17,7 +17,7 @@ use Rattle.arith.specs.Sums.{Each, sumOver}
 use Rattle.refusal.specs.Refused.{result}
 use Rattle.particle.specs.declared.Particle.{Particle}
 use Rattle.apic.specs.Totals.{totalMass, momentum, angularMomentum, torque, firstMoment}
-use Rattle.simulation.specs.declared.Settings.{Settings}
+use Rattle.settings.specs.declared.Settings.{Settings}
 use Rattle.simulation.specs.Step.{gravity, stepped, stepOf}
 use Rattle.simulation.specs.Demand3.{worked, arrives, shareOf, torqueOf, momentOf, Keeps}
 use Rattle.simulation.proofs.Steps.{Completed, kept-identifiers, kept-masses, kept-mass, step-linear, step-angular}

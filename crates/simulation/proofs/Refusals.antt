@@ -17,27 +17,27 @@ use lib.IntN.{pos, natAbs}
 use lib.Signed.{_≤ℤ_}
 use Rattle.arith.specs.Order.{nonneg-pos, pos-cancel}
 use Rattle.arith.specs.Size.{bound-within, within-bound}
+use Rattle.arith.specs.Rounding.{rounded, rounded-error}
 use Rattle.arith.specs.Sums.{Each, upTo, each-upTo}
-use Rattle.refusal.specs.Refused.{Answer, result, refused, refuseIf}
+use Rattle.refusal.specs.Refused.{Answer, result, refused, refuseIf, done}
 use Rattle.refusal.proofs.Answers.{not-refused}
-use Rattle.spline.specs.Spline.{axisWeight}
+use Rattle.spline.specs.Spline.{axisWeight, D}
 use Rattle.particle.specs.declared.Particle.{Particle}
 use Rattle.particles.specs.Set.{recordsOf}
-use Rattle.apic.specs.Step.{Axis, alongX, alongY, newCoordinate, nodeMass}
+use Rattle.apic.specs.Step.{Axis, alongX, alongY, newCoordinate, nodeMass, Grids}
 use Rattle.apic.specs.Limits.{SetLimits}
 use Rattle.apic.proofs.Bounds as bounds
 use Rattle.apic.proofs.Bounds.{limited-set, node-limits}
 use Rattle.apic.proofs.Spline.{spline-near, spline-placed, spline-updated}
-use Rattle.unpacked.proofs.Laws.{length-tabulated}
+use Rattle.arith.specs.Lists.{length-tabulated}
 use Rattle.gather_core.specs.Gather.{beyond, offAxis, moveCheck, moveChecks, NodeVelocities}
-use Rattle.update.specs.Checks.{done}
 use Rattle.update.specs.Update.{velocityOf, NodeLimits, GridLimits, updateAnswer}
 use Rattle.update.proofs.Answers.{update-accepts}
-use Rattle.simulation.specs.declared.Settings.{Settings}
-use Rattle.simulation.specs.Step.{Grids, gravity, masses, momenta, updatedVelocities, move, stepped, stepOf, nodesOf}
+use Rattle.settings.specs.declared.Settings.{Settings}
+use Rattle.simulation.specs.Step.{gravity, masses, momenta, updatedVelocities, move, stepped, stepOf, nodesOf}
 use Rattle.simulation.specs.Run.{Completion, runFrom}
 use Rattle.simulation.specs.Demand3.{arrives}
-use Rattle.simulation.proofs.Fields.{round, round-nearest, updatedField, mass-at, momentum-at, velocity-grid}
+use Rattle.simulation.proofs.Fields.{updatedField, mass-at, momentum-at, velocity-grid}
 use Rattle.simulation.proofs.Steps.{step-result}
 
 -- ---- the update
@@ -54,12 +54,12 @@ inside k (suc n) ny h =
 module _ (s : Settings) (ps : List Particle) (limits : SetLimits (s .nx) (s .ny) ps) (light : (a : Axis) → natAbs (gravity s a) ≤ 4096) where
   updated-most : (a : Axis) (i j : ℕ) → natAbs (updatedField s a ps i j) ≤ 131072
   updated-most a i j =
-      within-bound (spline-updated (s .nx) (s .ny) ps (limited-set limits) round round-nearest (gravity s a) (bound-within (record { size = light a })) a i j) .size
+      within-bound (spline-updated (s .nx) (s .ny) ps (limited-set limits) rounded rounded-error (gravity s a) (bound-within (record { size = light a })) a i j) .size
 
-  node-at : (k : ℕ) → k < s .nx * s .ny → bounds.NodeLimits axisWeight ps (k % s .nx) (k / s .nx)
+  node-at : (k : ℕ) → k < s .nx * s .ny → bounds.NodeLimits axisWeight D ps (k % s .nx) (k / s .nx)
   node-at k h =
       let c = inside k (s .nx) (s .ny) h in
-      node-limits axisWeight spline-near (s .nx) (s .ny) ps (spline-placed (s .nx) (s .ny) ps (limits .each)) (limited-set limits) (k % s .nx) (k / s .nx) (c .0) (c .1)
+      node-limits axisWeight spline-near D (s .nx) (s .ny) ps (spline-placed (s .nx) (s .ny) ps (limits .each)) (limited-set limits) (k % s .nx) (k / s .nx) (c .0) (c .1)
 
   module _ (k : ℕ) (h : k < s .nx * s .ny) where
     mass-is : nodeMass axisWeight ps (k % s .nx) (k / s .nx) ≡ pos (getD (masses s ps) k 0)

@@ -1,5 +1,5 @@
 -- A run, turn by turn, and from records to records.
---     Running                  the loop's invariant: what remains to be done from here, added to what is done, is the whole run
+--     RunningFrom, Running     the loop's invariant: what remains to be done from here, added to what is done, is the whole run
 --     running-start .. running-end
 --                              its begin, a step, a stop and its end
 --     repeat-ready, settle-ready, run-seen
@@ -13,31 +13,30 @@ use native.Mathlib.Numerals.{add-one}
 use native.Mathlib.Omega.{arith}
 use lib.ListN.{length, length-map}
 use lib.IntN.{ℤ}
-use Rattle.refusal.specs.Refused.{Answer, result, refused, refusedBy, either}
+use Rattle.refusal.specs.Refused.{Answer, result, refused, refusedBy, either, done}
 use Rattle.refusal.specs.declared.Refusal.{Refusal}
-use Rattle.spline.specs.Answers.{table}
+use Rattle.spline.specs.Kernel.{BuiltIn}
+use Rattle.particle.specs.Layout.{recordLength}
 use Rattle.particle.specs.declared.Particle.{Particle}
-use Rattle.apic.specs.Step.{alongX, alongY}
-use Rattle.apic.specs.Limits.{SetLimits}
+use Rattle.apic.specs.Step.{alongX, alongY, Grids, gridsOf}
 use Rattle.particles.specs.Set.{recordCount, recordsOf, particlesIn}
 use Rattle.particles.proofs.Checks.{entered, length-limits}
-use Rattle.unpacked.specs.Unpacked.{unpacked, particlesOf, UnpackedSet}
-use Rattle.unpacked.proofs.Laws.{count, length-unpacked, particlesOf-unpacked}
-use Rattle.packing.specs.Packing.{Packable}
-use Rattle.packing.proofs.Sets.{unpacked-set, unpacked-accepted}
+use Rattle.unpacked.specs.Unpacked.{perParticle, unpacked, Holds}
+use Rattle.unpacked.proofs.Laws.{numbers-count}
+use Rattle.packing.specs.Packing.{identifiers}
+use Rattle.packing.proofs.Sets.{unpacked-accepted}
 use Rattle.gather_core.specs.declared.Gathered.{Gathered}
 use Rattle.gather_core.specs.declared.Gathered.the-variants as gathered
-use Rattle.update.specs.Checks.{done}
-use Rattle.simulation.specs.declared.Settings.{Settings}
+use Rattle.settings.specs.declared.Settings.{Settings}
 use Rattle.simulation.specs.declared.Ran.{Ran}
 use Rattle.simulation.specs.declared.Ran.the-variants.{Done, Stopped}
-use Rattle.simulation.specs.Step.{Grids, After, gridsOf, nodesOf, stepped, stepOf}
+use Rattle.simulation.specs.Step.{After, seen, nodesOf, stepped, stepOf}
 use Rattle.simulation.specs.Run.{Completion, afterOne, runFrom, toldRan}
-use Rattle.simulation.specs.Internal.{StepReady, Turns, Repeats, RunReady, toldGatheredTo, current, other, recordsAfter, completedBy, seen}
-use Rattle.simulation.proofs.Steps.{completed, limits-after}
+use Rattle.simulation.specs.Internal.{StepReady, StepLeaves, Turns, RepeatsFrom, Repeats, Settles, RunReady, toldGatheredTo, current, other, recordsAfter, completedBy}
+use Rattle.simulation.proofs.Steps.{completed, limits-after, kept-identifiers}
 use Rattle.simulation.proofs.Refusals.{grid-limits, velocity-limits}
 use Rattle.simulation.proofs.Particles.{light}
-use Rattle.simulation.proofs.Turns.{swap, current-length}
+use Rattle.simulation.proofs.Turns.{swap, current-length, Home}
 
 -- ---- one step of the definition
 
@@ -65,20 +64,34 @@ run-none s records ps grids = refl
 
 -- ---- the loop
 
-pub record Running (s : Settings) (steps : ℕ) (weights : List (List ℕ)) (ps : List Particle) (grids : Grids) (k : ℕ) (mass : List ℕ) (px py a b : List ℤ) : Type 0 where
-  pub ready : StepReady s (current k a b) weights mass px py (other k a b)
-  pub most : k ≤ steps
-  pub is : (records : List ℕ) → plus k (runFrom s (steps - k) (recordsAfter records k (particlesOf (current k a b))) (particlesOf (current k a b)) (gridsOf mass px py)) ≡ runFrom s steps records ps grids
+-- from the particles ps: those that the array holds now, under their identifiers
+pub record RunningFrom (s : Settings) (steps : ℕ) (ps : List Particle) (grids : Grids) (k : ℕ) (mass : List ℕ) (px py a b : List ℤ) : Type 0 where
+  pub particles : List Particle
+  pub holds : Holds (s .nx) (s .ny) (current k a b) particles
+  pub named : identifiers particles ≡ identifiers ps
+  pub is : (records : List ℕ) → plus k (runFrom s (steps - k) (recordsAfter records k particles) particles (gridsOf mass px py)) ≡ runFrom s steps records ps grids
 
-module _ {s : Settings} {weights : List (List ℕ)} {mass : List ℕ} {px py a b : List ℤ} where
-  pub running-start : (steps : ℕ) → StepReady s a weights mass px py b → Running s steps weights (particlesOf a) (gridsOf mass px py) 0 mass px py a b
+-- from whichever particles the source holds
+pub record Running (s : Settings) (steps : ℕ) (weights : List (List ℕ)) (d : ℕ) (source : List ℤ) (grids : Grids) (k : ℕ) (mass : List ℕ) (px py a b : List ℤ) : Type 0 where
+  pub ready : StepReady s (current k a b) weights d mass px py (other k a b)
+  pub most : k ≤ steps
+  pub from : (ps : List Particle) → Holds (s .nx) (s .ny) source ps → RunningFrom s steps ps grids k mass px py a b
+
+module _ {s : Settings} {weights : List (List ℕ)} {d : ℕ} {mass : List ℕ} {px py a b : List ℤ} where
+  pub running-start : (steps : ℕ) → StepReady s a weights d mass px py b → Running s steps weights d a (gridsOf mass px py) 0 mass px py a b
   running-start steps ready =
       record {
         ready = ready;
         most = omega arith;
-        is = λ records.
-            ap (λ n. plus 0 (runFrom s n records (particlesOf a) (gridsOf mass px py))) (whole steps)
-            ∙ none (runFrom s steps records (particlesOf a) (gridsOf mass px py));
+        from = λ ps holds.
+            record {
+              particles = ps;
+              holds = holds;
+              named = refl;
+              is = λ records.
+                  ap (λ n. plus 0 (runFrom s n records ps (gridsOf mass px py))) (whole steps)
+                  ∙ none (runFrom s steps records ps (gridsOf mass px py));
+            };
       }
     where
       whole : (n : ℕ) → n - 0 ≡ n
@@ -87,10 +100,26 @@ module _ {s : Settings} {weights : List (List ℕ)} {mass : List ℕ} {px py a b
       none : (r : After Completion) → plus 0 r ≡ r
       none r = ap (λ n. seen (record { completed = n; stop = r .answer .stop }) (r .records) (r .grids)) (zero-add (r .answer .completed))
 
-module _ {s : Settings} {steps : ℕ} {weights : List (List ℕ)} {ps : List Particle} {grids : Grids} {k : ℕ} {mass : List ℕ} {px py a b : List ℤ} (h : Running s steps weights ps grids k mass px py a b) where
-  module _ (less : k < steps) {r : Gathered} {mass′ : List ℕ} {px′ py′ a′ b′ : List ℤ} (t : Turns s k a b r mass′ px′ py′ a′ b′) where
+-- a completed step from the particles that the array holds
+module _ {s : Settings} {k : ℕ} {a b a′ b′ : List ℤ} {r : Gathered} {mass′ : List ℕ} {px′ py′ : List ℤ} (t : Turns s k a b r mass′ px′ py′ a′ b′) (c : r ≡ gathered.Done) {qs : List Particle} (holds : Holds (s .nx) (s .ny) (current k a b) qs) where
+  passed : stepOf s qs ≡ result (stepped s qs)
+  passed = sym (t .step qs holds .answer) ∙ ap (λ x. toldGatheredTo x (stepped s qs)) c
+
+  next-holds : Holds (s .nx) (s .ny) (current (suc k) a′ b′) (stepped s qs)
+  next-holds =
+      record {
+        is = swap k a′ b′ ∙ t .step qs holds .moved c;
+        limits = limits-after s qs (completed s qs (holds .limits) passed);
+      }
+
+module _ {s : Settings} {steps : ℕ} {grids : Grids} {k : ℕ} {mass : List ℕ} {px py a b : List ℤ} where
+  -- a step of the run from the particles ps
+  module _ (less : k < steps) {ps : List Particle} (h : RunningFrom s steps ps grids k mass px py a b) {r : Gathered} {mass′ : List ℕ} {px′ py′ a′ b′ : List ℤ} (t : Turns s k a b r mass′ px′ py′ a′ b′) where
     abbrev here : List Particle
-    here = particlesOf (current k a b)
+    here = h .particles
+
+    leaves : StepLeaves s (h .particles) r mass′ px′ py′ (other k a′ b′)
+    leaves = t .step (h .particles) (h .holds)
 
     -- the rest of the run from here
     abbrev rest : List ℕ → After Completion
@@ -102,127 +131,143 @@ module _ {s : Settings} {steps : ℕ} {weights : List (List ℕ)} {ps : List Par
     whole : (records : List ℕ) → plus k (rest records) ≡ runFrom s steps records ps grids
     whole records = ap (λ n. plus k (runFrom s n (recordsAfter records k here) here (gridsOf mass px py))) (sym left) ∙ h .is records
 
-    pub running-stop : {e : Refusal} → r ≡ gathered.Refused e → Repeats s steps ps grids (Stopped k e) mass′ px′ py′ a′ b′
-    running-stop {e} c =
+    stop-from : {e : Refusal} → r ≡ gathered.Refused e → RepeatsFrom s steps ps grids (Stopped k e) mass′ px′ py′ a′ b′
+    stop-from {e} c =
         record {
-          set = subst (UnpackedSet (s .nx) (s .ny)) (sym (t .kept)) (h .ready .set);
+          particles = here;
+          holds = subst (λ l. Holds (s .nx) (s .ny) l here) (sym (t .kept)) (h .holds);
+          named = h .named;
           is = λ records.
               sym (
               sym (whole records)
-              ∙ ap (plus k) (run-stops s (steps - suc k) (recordsAfter records k here) here (gridsOf mass px py) (sym (t .step .answer) ∙ ap (λ x. toldGatheredTo x (stepped s here)) c))
-              ∙ ap (λ n. seen (record { completed = n; stop = refusedBy e }) (recordsAfter records k here) (nodesOf s here)) (add-zero k)
-              ∙ ap₂ (λ l g. seen (record { completed = k; stop = refusedBy e }) (recordsAfter records k (particlesOf l)) g) (sym (t .kept)) (sym (t .step .grids))
+              ∙ ap (plus k) (run-stops s (steps - suc k) (recordsAfter records k here) here (gridsOf mass px py) (sym (leaves .answer) ∙ ap (λ x. toldGatheredTo x (stepped s here)) c))
+              ∙ ap₂ (λ n g. seen (record { completed = n; stop = refusedBy e }) (recordsAfter records k here) g) (add-zero k) (sym (leaves .grids))
               );
         }
 
     module _ (c : r ≡ gathered.Done) where
-      passed : stepOf s here ≡ result (stepped s here)
-      passed = sym (t .step .answer) ∙ ap (λ x. toldGatheredTo x (stepped s here)) c
-
-      next : current (suc k) a′ b′ ≡ unpacked (stepped s here)
-      next = swap k a′ b′ ∙ t .step .moved c
-
-      there : particlesOf (current (suc k) a′ b′) ≡ stepped s here
-      there = ap particlesOf next ∙ particlesOf-unpacked (stepped s here)
-
-      limits : SetLimits (s .nx) (s .ny) (stepped s here)
-      limits = limits-after s here (completed s here (h .ready .set .limits) passed)
-
-      same-length : length (stepped s here) ≡ length here
-      unfolding stepped
-      same-length = length-map here _
-
-      room : length (other (suc k) a′ b′) ≡ length (current (suc k) a′ b′)
-      room =
-          ap length (swap k b′ a′ ∙ t .kept) ∙ count (h .ready .set) ∙ ap (λ n. 10 * n) (sym same-length)
-          ∙ sym (length-unpacked (stepped s here)) ∙ ap length (sym next)
-
-      next-ready : StepReady s (current (suc k) a′ b′) weights mass′ px′ py′ (other (suc k) a′ b′)
-      next-ready =
-          record {
-            set = subst (UnpackedSet (s .nx) (s .ny)) (sym next) (unpacked-set (s .nx) (s .ny) (stepped s here) limits);
-            gravity-x = h .ready .gravity-x;
-            gravity-y = h .ready .gravity-y;
-            is-table = h .ready .is-table;
-            mass-long = ap (λ g. length (g .mass)) (t .step .grids) ∙ grid-limits s here (h .ready .set .limits) (light (h .ready)) .mass-length;
-            px-long = ap (λ g. length (g .x)) (t .step .grids) ∙ velocity-limits s here (h .ready .set .limits) (light (h .ready)) alongX .count;
-            py-long = ap (λ g. length (g .y)) (t .step .grids) ∙ velocity-limits s here (h .ready .set .limits) (light (h .ready)) alongY .count;
-            room = room;
-          }
-
       one-more : (r : After Completion) → plus (suc k) r ≡ plus k (afterOne r)
       one-more r =
           ap (λ n. seen (record { completed = n; stop = r .answer .stop }) (r .records) (r .grids)) (suc-add k (r .answer .completed) ∙ sym (add-suc k (r .answer .completed)))
 
-      running-suc : Running s steps weights ps grids (suc k) mass′ px′ py′ a′ b′
-      running-suc =
+      next-from : RunningFrom s steps ps grids (suc k) mass′ px′ py′ a′ b′
+      next-from =
           record {
-            ready = next-ready;
-            most = omega arith;
+            particles = stepped s here;
+            holds = next-holds t c (h .holds);
+            named = kept-identifiers s here ∙ h .named;
             is = λ records.
-                ap₂ (λ qs g. plus (suc k) (runFrom s (steps - suc k) (recordsOf qs) qs g)) there (t .step .grids)
+                ap (λ g. plus (suc k) (runFrom s (steps - suc k) (recordsOf (stepped s here)) (stepped s here) g)) (leaves .grids)
                 ∙ one-more (runFrom s (steps - suc k) (recordsOf (stepped s here)) (stepped s here) (nodesOf s here))
-                ∙ ap (plus k) (sym (run-on s (steps - suc k) (recordsAfter records k here) here (gridsOf mass px py) passed))
+                ∙ ap (plus k) (sym (run-on s (steps - suc k) (recordsAfter records k here) here (gridsOf mass px py) (passed t c (h .holds))))
                 ∙ whole records;
           }
 
-      pub running-next : Running s steps weights ps grids (k + 1) mass′ px′ py′ a′ b′
-      running-next = subst (λ n. Running s steps weights ps grids n mass′ px′ py′ a′ b′) (sym (add-one k)) running-suc
-
-  pub running-end : steps ≤ k → Repeats s steps ps grids (Done k) mass px py a b
-  running-end e =
+  end-from : {ps : List Particle} → RunningFrom s steps ps grids k mass px py a b → steps ≤ k → k ≤ steps → RepeatsFrom s steps ps grids (Done k) mass px py a b
+  end-from {ps} h e most =
       record {
-        set = h .ready .set;
+        particles = h .particles;
+        holds = h .holds;
+        named = h .named;
         is = λ records.
             sym (
             sym (h .is records)
-            ∙ ap (λ n. plus k (runFrom s n (recordsAfter records k (particlesOf (current k a b))) (particlesOf (current k a b)) (gridsOf mass px py))) none
-            ∙ ap (plus k) (run-none s (recordsAfter records k (particlesOf (current k a b))) (particlesOf (current k a b)) (gridsOf mass px py))
-            ∙ ap (λ n. seen (record { completed = n; stop = done }) (recordsAfter records k (particlesOf (current k a b))) (gridsOf mass px py)) (add-zero k)
+            ∙ ap (λ n. plus k (runFrom s n (recordsAfter records k (h .particles)) (h .particles) (gridsOf mass px py))) none
+            ∙ ap (plus k) (run-none s (recordsAfter records k (h .particles)) (h .particles) (gridsOf mass px py))
+            ∙ ap (λ n. seen (record { completed = n; stop = done }) (recordsAfter records k (h .particles)) (gridsOf mass px py)) (add-zero k)
             );
       }
     where
       none : steps - k ≡ 0
-      none = let m = h .most in omega arith
+      none = omega arith
+
+module _ {s : Settings} {steps : ℕ} {weights : List (List ℕ)} {d : ℕ} {source : List ℤ} {grids : Grids} {k : ℕ} {mass : List ℕ} {px py a b : List ℤ} (h : Running s steps weights d source grids k mass px py a b) where
+  module _ (less : k < steps) {r : Gathered} {mass′ : List ℕ} {px′ py′ a′ b′ : List ℤ} (t : Turns s k a b r mass′ px′ py′ a′ b′) where
+    pub running-stop : {e : Refusal} → r ≡ gathered.Refused e → Repeats s steps source grids (Stopped k e) mass′ px′ py′ a′ b′
+    running-stop c ps holds = stop-from less (h .from ps holds) t c
+
+    module _ (c : r ≡ gathered.Done) where
+      -- some particles that the array holds
+      abbrev some : List Particle
+      some = h .ready .set .particles
+
+      abbrev held : Holds (s .nx) (s .ny) (current k a b) some
+      held = h .ready .set .holds
+
+      grids-are : gridsOf mass′ px′ py′ ≡ nodesOf s some
+      grids-are = t .step some held .grids
+
+      same-length : length (stepped s some) ≡ length some
+      unfolding stepped
+      same-length = length-map some _
+
+      room : length (other (suc k) a′ b′) ≡ length (current (suc k) a′ b′)
+      room =
+          ap length (swap k b′ a′ ∙ t .kept) ∙ numbers-count held ∙ ap (λ n. perParticle * n) (sym same-length)
+          ∙ sym (numbers-count (next-holds t c held))
+
+      next-ready : StepReady s (current (suc k) a′ b′) weights d mass′ px′ py′ (other (suc k) a′ b′)
+      next-ready =
+          record {
+            set = record { particles = stepped s some; holds = next-holds t c held };
+            gravity-x = h .ready .gravity-x;
+            gravity-y = h .ready .gravity-y;
+            built-in = h .ready .built-in;
+            mass-long = ap (λ g. length (g .mass)) grids-are ∙ grid-limits s some (held .limits) (light (h .ready)) .mass-length;
+            px-long = ap (λ g. length (g .x)) grids-are ∙ velocity-limits s some (held .limits) (light (h .ready)) alongX .count;
+            py-long = ap (λ g. length (g .y)) grids-are ∙ velocity-limits s some (held .limits) (light (h .ready)) alongY .count;
+            room = room;
+          }
+
+      running-suc : Running s steps weights d source grids (suc k) mass′ px′ py′ a′ b′
+      running-suc = record { ready = next-ready; most = omega arith; from = λ ps holds. next-from less (h .from ps holds) t c }
+
+      pub running-next : Running s steps weights d source grids (k + 1) mass′ px′ py′ a′ b′
+      running-next = subst (λ n. Running s steps weights d source grids n mass′ px′ py′ a′ b′) (sym (add-one k)) running-suc
+
+  pub running-end : steps ≤ k → Repeats s steps source grids (Done k) mass px py a b
+  running-end e ps holds = end-from (h .from ps holds) e (h .most)
 
 -- ---- from records to numbers and back
 
 module _ {s : Settings} {records mass : List ℕ} {px py : List ℤ} (ready : RunReady s records mass px py) where
-  bytes : length records ≡ 14 * recordCount records
+  bytes : length records ≡ recordLength * recordCount records
   bytes = sym (length-limits (length records) (entered (s .nx) (s .ny) records (ready .set) .whole) .whole)
 
-  pub part-room : 10 * recordCount records ≤ 40960
-  part-room = room (recordCount records) (length-limits (length records) (entered (s .nx) (s .ny) records (ready .set) .whole) .count)
-    where
-      room : (n : ℕ) → n ≤ 4096 → 10 * n ≤ 40960
-      room n h = omega arith
-
   module _ {a : List ℤ} (e : a ≡ unpacked (particlesIn records)) where
-    pub repeat-ready : {weights : List (List ℕ)} {b : List ℤ} → weights ≡ table → length b ≡ length a → StepReady s a weights mass px py b
+    holds : Holds (s .nx) (s .ny) a (particlesIn records)
+    holds = subst (λ l. Holds (s .nx) (s .ny) l (particlesIn records)) (sym e) (unpacked-accepted (s .nx) (s .ny) records (ready .set))
+
+    pub repeat-ready : {weights : List (List ℕ)} {d : ℕ} {b : List ℤ} → BuiltIn weights d → length b ≡ length a → StepReady s a weights d mass px py b
     repeat-ready w r =
         record {
-          set = subst (UnpackedSet (s .nx) (s .ny)) (sym e) (unpacked-accepted (s .nx) (s .ny) records (ready .set));
+          set = record { particles = particlesIn records; holds = holds };
           gravity-x = ready .gravity-x;
           gravity-y = ready .gravity-y;
-          is-table = w;
+          built-in = w;
           mass-long = ready .mass-long;
           px-long = ready .px-long;
           py-long = ready .py-long;
           room = r;
         }
 
-    module _ {steps : ℕ} {r : Ran} {mass′ : List ℕ} {px′ py′ a′ b′ : List ℤ} (t : Repeats s steps (particlesOf a) (gridsOf mass px py) r mass′ px′ py′ a′ b′) {k : ℕ} (same : k ≡ completedBy r) where
-      pub settle-ready : length a′ ≡ 10 * recordCount records → length b′ ≡ 10 * recordCount records → Packable (current k a′ b′) × (length records ≡ 14 * (length (current k a′ b′) / 10))
+    module _ {steps : ℕ} {r : Ran} {mass′ : List ℕ} {px′ py′ a′ b′ : List ℤ} (t : Repeats s steps a (gridsOf mass px py) r mass′ px′ py′ a′ b′) {k : ℕ} (same : k ≡ completedBy r) where
+      after : RepeatsFrom s steps (particlesIn records) (gridsOf mass px py) r mass′ px′ py′ a′ b′
+      after = t (particlesIn records) holds
+
+      held-then : Holds (s .nx) (s .ny) (current k a′ b′) (after .particles)
+      held-then = subst (λ n. Holds (s .nx) (s .ny) (current n a′ b′) (after .particles)) (sym same) (after .holds)
+
+      pub settle-ready : length a′ ≡ perParticle * recordCount records → length b′ ≡ perParticle * recordCount records → Home records (current k a′ b′)
       settle-ready la lb = (
-        record { nx = s .nx; ny = s .ny; set = subst (λ n. UnpackedSet (s .nx) (s .ny) (current n a′ b′)) (sym same) (t .set) },
-        bytes ∙ ap (λ n. 14 * n) (many (recordCount records) (length (current k a′ b′)) (current-length k a′ b′ la lb)),
+        record { nx = s .nx; ny = s .ny; set = record { particles = after .particles; holds = held-then } },
+        bytes ∙ ap (λ n. recordLength * n) (many (recordCount records) (length (current k a′ b′)) (current-length k a′ b′ la lb)),
       )
         where
-          many : (n l : ℕ) → l ≡ 10 * n → n ≡ l / 10
+          many : (n l : ℕ) → l ≡ perParticle * n → n ≡ l / perParticle
           many n l f = omega arith
 
-      pub run-seen : {records′ : List ℕ} → records′ ≡ recordsAfter records k (particlesOf (current k a′ b′)) → seen (toldRan r) records′ (gridsOf mass′ px′ py′) ≡ runFrom s steps records (particlesIn records) (gridsOf mass px py)
-      run-seen p =
-          ap (λ l. seen (toldRan r) l (gridsOf mass′ px′ py′)) (p ∙ ap (λ n. recordsAfter records n (particlesOf (current n a′ b′))) same)
-          ∙ t .is records
-          ∙ ap (λ qs. runFrom s steps records qs (gridsOf mass px py)) (ap particlesOf e ∙ particlesOf-unpacked (particlesIn records))
+      pub run-seen : {records′ : List ℕ} → Settles k (current k a′ b′) records records′ → seen (toldRan r) records′ (gridsOf mass′ px′ py′) ≡ runFrom s steps records (particlesIn records) (gridsOf mass px py)
+      run-seen settles =
+          ap (λ l. seen (toldRan r) l (gridsOf mass′ px′ py′)) (settles (after .particles) (held-then .is) (after .named) ∙ ap (λ n. recordsAfter records n (after .particles)) same)
+          ∙ after .is records

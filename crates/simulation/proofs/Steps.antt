@@ -15,24 +15,27 @@ use lib.Dec.{T}
 use lib.IntN.{ℤ, pos, _+ℤ_, _-ℤ_, _*ℤ_}
 use lib.Signed.{_≤ℤ_, nonNeg, pos-natAbs}
 use Rattle.arith.specs.Order.{Within, pos-nonneg}
+use Rattle.arith.specs.Rounding.{rounded, rounded-error}
 use Rattle.arith.specs.Sums.{Each, each-map}
 use Rattle.refusal.specs.Refused.{Answer, result, refused}
 use Rattle.refusal.proofs.Answers.{same-result, not-result}
-use Rattle.spline.specs.Spline.{axisWeight}
+use Rattle.spline.specs.Spline.{axisWeight, D}
+use Rattle.spline.proofs.Table.{spline-spread}
 use Rattle.particle.specs.declared.Particle.{Particle}
 use Rattle.apic.specs.Step.{Axis, alongX, alongY, newCoordinate, moved, node}
 use Rattle.apic.specs.Totals.{totalMass, momentum, angularMomentum, torque, firstMoment}
 use Rattle.apic.specs.Limits.{SetLimits}
 use Rattle.apic.proofs.Gather.{along, NewPlace, gather-identifiers, gather-masses, gather-mass}
 use Rattle.apic.proofs.Fields.{velocity-fields}
+use Rattle.apic.proofs.Bounds.{spread-whole}
 use Rattle.apic.proofs.Spline.{spline-placed}
 use Rattle.apic.proofs.Conservation as apic
 use Rattle.gather_core.specs.Gather.{moveChecks}
 use Rattle.gather_core.proofs.Checks.{follow, checks-follow, Passed, passed}
 use Rattle.gather_core.proofs.Kept.{set-kept}
-use Rattle.simulation.specs.declared.Settings.{Settings}
+use Rattle.settings.specs.declared.Settings.{Settings}
 use Rattle.simulation.specs.Step.{gravity, updatedVelocities, move, stepped, stepOf}
-use Rattle.simulation.proofs.Fields.{round, round-nearest, updatedField, field, stepped-is}
+use Rattle.simulation.proofs.Fields.{updatedField, field, stepped-is}
 
 -- the checks of a step, apart from what it leads to
 abbrev pub checks : Settings → List Particle → Answer (Unit {0})
@@ -75,27 +78,27 @@ module _ (s : Settings) (ps : List Particle) where
 
   pub kept-identifiers : map (λ p. p .identifier) (stepped s ps) ≡ map (λ p. p .identifier) ps
   unfolding stepped
-  kept-identifiers = gather-identifiers round axisWeight (s .nx) (s .ny) ux uy ps
+  kept-identifiers = gather-identifiers rounded axisWeight (s .nx) (s .ny) ux uy ps
 
   pub kept-masses : map (λ p. p .mass) (stepped s ps) ≡ map (λ p. p .mass) ps
   unfolding stepped
-  kept-masses = gather-masses round axisWeight (s .nx) (s .ny) ux uy ps
+  kept-masses = gather-masses rounded axisWeight (s .nx) (s .ny) ux uy ps
 
   pub kept-mass : totalMass (stepped s ps) ≡ totalMass ps
   unfolding stepped
-  kept-mass = gather-mass round axisWeight (s .nx) (s .ny) ux uy ps
+  kept-mass = gather-mass rounded axisWeight (s .nx) (s .ny) ux uy ps
 
   module _ (h : Completed s ps) where
     pub limits-after : SetLimits (s .nx) (s .ny) (stepped s ps)
     unfolding stepped
-    limits-after = set-kept (s .nx) (s .ny) (updatedVelocities s alongX ps) (updatedVelocities s alongY ps) 0 ps (h .limits) (h .checked)
+    limits-after = set-kept axisWeight (s .nx) (s .ny) (updatedVelocities s alongX ps) (updatedVelocities s alongY ps) 0 ps (h .limits) (h .checked)
 
-    new-place : (p : Particle) → Passed (s .nx) (s .ny) p (move s ps p) → NewPlace round axisWeight (s .nx) (s .ny) (updatedField s alongX ps) (updatedField s alongY ps) p
+    new-place : (p : Particle) → Passed (s .nx) (s .ny) p (move s ps p) → NewPlace rounded axisWeight (s .nx) (s .ny) (updatedField s alongX ps) (updatedField s alongY ps) p
     unfolding moved
     new-place p m =
         record {
-          new-x = subst (λ v. pos 0 ≤ℤ newCoordinate alongX p v) (velocity-fields round axisWeight (s .nx) (s .ny) ux (updatedField s alongX ps) (field s ps alongX) p) (nonneg (m .x .0));
-          new-y = subst (λ v. pos 0 ≤ℤ newCoordinate alongY p v) (velocity-fields round axisWeight (s .nx) (s .ny) uy (updatedField s alongY ps) (field s ps alongY) p) (nonneg (m .y .0));
+          new-x = subst (λ v. pos 0 ≤ℤ newCoordinate alongX p v) (velocity-fields rounded axisWeight (s .nx) (s .ny) ux (updatedField s alongX ps) (field s ps alongX) p) (nonneg (m .x .0));
+          new-y = subst (λ v. pos 0 ≤ℤ newCoordinate alongY p v) (velocity-fields rounded axisWeight (s .nx) (s .ny) uy (updatedField s alongY ps) (field s ps alongY) p) (nonneg (m .y .0));
         }
       where
         nonneg : {z : ℤ} → T (nonNeg z) → pos 0 ≤ℤ z
@@ -105,7 +108,7 @@ module _ (s : Settings) (ps : List Particle) where
     step-linear a =
         subst (λ g. Within (pos 257 *ℤ pos (totalMass ps)) (pos 512 *ℤ (momentum a (stepped s ps) -ℤ momentum a ps) -ℤ pos 2 *ℤ (pos (totalMass ps) *ℤ g))) (same a)
         (subst (λ qs. Within (pos 257 *ℤ pos (totalMass ps)) (pos 512 *ℤ (momentum a qs -ℤ momentum a ps) -ℤ pos 2 *ℤ (pos (totalMass ps) *ℤ along a (s .gx) (s .gy)))) (sym (stepped-is s ps))
-        (apic.step-linear round round-nearest axisWeight (s .nx) (s .ny) (s .gx) (s .gy) ps (spline-placed (s .nx) (s .ny) ps (h .limits .each)) a))
+        (apic.step-linear rounded rounded-error axisWeight D (spread-whole spline-spread) (s .nx) (s .ny) ps (spline-placed (s .nx) (s .ny) ps (h .limits .each)) (s .gx) (s .gy) a))
       where
         same : (a : Axis) → along a (s .gx) (s .gy) ≡ gravity s a
         same alongX = refl
@@ -114,5 +117,5 @@ module _ (s : Settings) (ps : List Particle) where
     pub step-angular : Within (pos 512 *ℤ pos (totalMass ps) +ℤ pos 257 *ℤ firstMoment ps) (pos 512 *ℤ (angularMomentum (stepped s ps) -ℤ angularMomentum ps) -ℤ pos 2 *ℤ torque (s .gx) (s .gy) ps)
     step-angular =
         subst (λ qs. Within (pos 512 *ℤ pos (totalMass ps) +ℤ pos 257 *ℤ firstMoment ps) (pos 512 *ℤ (angularMomentum qs -ℤ angularMomentum ps) -ℤ pos 2 *ℤ torque (s .gx) (s .gy) ps)) (sym (stepped-is s ps))
-        (apic.step-angular round round-nearest axisWeight (s .nx) (s .ny) (s .gx) (s .gy) ps (spline-placed (s .nx) (s .ny) ps (h .limits .each))
+        (apic.step-angular rounded rounded-error axisWeight D (spread-whole spline-spread) (s .nx) (s .ny) ps (spline-placed (s .nx) (s .ny) ps (h .limits .each)) (s .gx) (s .gy)
         (each-map _ _ new-place ps (all-passed (s .nx) (s .ny) (move s ps) 0 ps (h .checked))))

@@ -2,7 +2,8 @@
 --     swap                        one step more exchanges the arrays
 --     current-length              two arrays of one length
 --     even-ready .. odd-turned    a turn, by the parity of the steps so far
---     even-packable .. odd-packed the way home, by the same
+--     none-settled, even-packable .. odd-packed
+--                                 the way home, by the same
 -- Assumes nothing.
 use mathlib.Core.Path.{_≡_, refl, sym, ap, subst, subst₂, _∙_}
 use mathlib.Core.Bool.{Bool, true, false, cond}
@@ -13,13 +14,14 @@ use lib.Dec.{eqb}
 use lib.ListN.{length}
 use lib.IntN.{ℤ}
 use borrow.Author.Tests.{eqb-true, eqb-false, eq-eqb, ne-eqb}
+use Rattle.particle.specs.Layout.{recordLength}
 use Rattle.particle.specs.declared.Particle.{Particle}
 use Rattle.particles.specs.Set.{recordsOf}
-use Rattle.unpacked.specs.Unpacked.{particlesOf}
-use Rattle.packing.specs.Packing.{Packable}
+use Rattle.unpacked.specs.Unpacked.{perParticle}
+use Rattle.packing.specs.Packing.{Packable, Packs}
 use Rattle.gather_core.specs.declared.Gathered.{Gathered}
-use Rattle.simulation.specs.declared.Settings.{Settings}
-use Rattle.simulation.specs.Internal.{StepReady, StepLeaves, Turns, current, other, recordsAfter}
+use Rattle.settings.specs.declared.Settings.{Settings}
+use Rattle.simulation.specs.Internal.{StepReady, Steps, Turns, Settles, current, other, recordsAfter}
 
 module _ (k : ℕ) (a b : List ℤ) where
   pub even : k % 2 ≡ 0 → current k a b ≡ a
@@ -55,44 +57,51 @@ current-length {n} k a b e f = go (eqb (k % 2) 0)
 -- ---- a turn
 
 module _ (k : ℕ) (a b : List ℤ) {s : Settings} {mass : List ℕ} {px py : List ℤ} where
-  pub even-ready : {weights : List (List ℕ)} → k % 2 ≡ 0 → StepReady s (current k a b) weights mass px py (other k a b) → StepReady s a weights mass px py b
-  even-ready {weights} e h = subst₂ (λ p q. StepReady s p weights mass px py q) (even k a b e) (even k b a e) h
+  pub even-ready : {weights : List (List ℕ)} {d : ℕ} → k % 2 ≡ 0 → StepReady s (current k a b) weights d mass px py (other k a b) → StepReady s a weights d mass px py b
+  even-ready {weights} {d} e h = subst₂ (λ p q. StepReady s p weights d mass px py q) (even k a b e) (even k b a e) h
 
-  pub odd-ready : {weights : List (List ℕ)} → (k % 2 ≡ 0 → ⊥) → StepReady s (current k a b) weights mass px py (other k a b) → StepReady s b weights mass px py a
-  odd-ready {weights} e h = subst₂ (λ p q. StepReady s p weights mass px py q) (odd k a b e) (odd k b a e) h
+  pub odd-ready : {weights : List (List ℕ)} {d : ℕ} → (k % 2 ≡ 0 → ⊥) → StepReady s (current k a b) weights d mass px py (other k a b) → StepReady s b weights d mass px py a
+  odd-ready {weights} {d} e h = subst₂ (λ p q. StepReady s p weights d mass px py q) (odd k a b e) (odd k b a e) h
 
-  pub even-turned : {r : Gathered} {b′ : List ℤ} → k % 2 ≡ 0 → StepLeaves s (particlesOf a) r mass px py b′ → Turns s k a b r mass px py a b′
+  pub even-turned : {r : Gathered} {b′ : List ℤ} → k % 2 ≡ 0 → Steps s a r mass px py b′ → Turns s k a b r mass px py a b′
   even-turned {r} {b′} e h =
       record {
         kept = even k a b′ e ∙ sym (even k a b e);
-        step = subst₂ (λ p q. StepLeaves s (particlesOf p) r mass px py q) (sym (even k a b e)) (sym (even k b′ a e)) h;
+        step = subst₂ (λ p q. Steps s p r mass px py q) (sym (even k a b e)) (sym (even k b′ a e)) h;
       }
 
-  pub odd-turned : {r : Gathered} {a′ : List ℤ} → (k % 2 ≡ 0 → ⊥) → StepLeaves s (particlesOf b) r mass px py a′ → Turns s k a b r mass px py a′ b
+  pub odd-turned : {r : Gathered} {a′ : List ℤ} → (k % 2 ≡ 0 → ⊥) → Steps s b r mass px py a′ → Turns s k a b r mass px py a′ b
   odd-turned {r} {a′} e h =
       record {
         kept = odd k a′ b e ∙ sym (odd k a b e);
-        step = subst₂ (λ p q. StepLeaves s (particlesOf p) r mass px py q) (sym (odd k a b e)) (sym (odd k b a′ e)) h;
+        step = subst₂ (λ p q. Steps s p r mass px py q) (sym (odd k a b e)) (sym (odd k b a′ e)) h;
       }
 
 -- ---- the way home
 
-abbrev Home : List ℕ → List ℤ → Type 0
-Home records l = Packable l × (length records ≡ 14 * (length l / 10))
+-- what the function that packs asks
+abbrev pub Home : List ℕ → List ℤ → Type 0
+Home records l = Packable l × (length records ≡ recordLength * (length l / perParticle))
 
 after-some : (records : List ℕ) (k : ℕ) (qs : List Particle) → (k ≡ 0 → ⊥) → recordsOf qs ≡ recordsAfter records k qs
 after-some records zero qs h = absurd (h refl)
 after-some records (suc k) qs h = refl
 
+pub none-settled : (k : ℕ) (l : List ℤ) (records : List ℕ) → k ≡ 0 → Settles k l records records
+none-settled k l records e ps is named = ap (λ n. recordsAfter records n ps) (sym e)
+
 module _ (k : ℕ) (a b : List ℤ) (records : List ℕ) where
-  pub even-packable : k % 2 ≡ 0 → Packable (current k a b) × (length records ≡ 14 * (length (current k a b) / 10)) → Packable a × (length records ≡ 14 * (length a / 10))
+  pub even-packable : k % 2 ≡ 0 → Home records (current k a b) → Home records a
   even-packable e h = subst (Home records) (even k a b e) h
 
-  pub odd-packable : (k % 2 ≡ 0 → ⊥) → Packable (current k a b) × (length records ≡ 14 * (length (current k a b) / 10)) → Packable b × (length records ≡ 14 * (length b / 10))
+  pub odd-packable : (k % 2 ≡ 0 → ⊥) → Home records (current k a b) → Home records b
   odd-packable e h = subst (Home records) (odd k a b e) h
 
-  pub even-packed : {records′ : List ℕ} → (k ≡ 0 → ⊥) → k % 2 ≡ 0 → records′ ≡ recordsOf (particlesOf a) → records′ ≡ recordsAfter records k (particlesOf (current k a b))
-  even-packed h e p = p ∙ after-some records k (particlesOf a) h ∙ ap (λ l. recordsAfter records k (particlesOf l)) (sym (even k a b e))
+  packed : {l : List ℤ} {records′ : List ℕ} → (k ≡ 0 → ⊥) → current k a b ≡ l → Packs l records records′ → Settles k (current k a b) records records′
+  packed h e p ps is named = p ps (sym e ∙ is) named ∙ after-some records k ps h
 
-  pub odd-packed : {records′ : List ℕ} → (k ≡ 0 → ⊥) → (k % 2 ≡ 0 → ⊥) → records′ ≡ recordsOf (particlesOf b) → records′ ≡ recordsAfter records k (particlesOf (current k a b))
-  odd-packed h e p = p ∙ after-some records k (particlesOf b) h ∙ ap (λ l. recordsAfter records k (particlesOf l)) (sym (odd k a b e))
+  pub even-packed : {records′ : List ℕ} → (k ≡ 0 → ⊥) → k % 2 ≡ 0 → Packs a records records′ → Settles k (current k a b) records records′
+  even-packed h e p = packed h (even k a b e) p
+
+  pub odd-packed : {records′ : List ℕ} → (k ≡ 0 → ⊥) → (k % 2 ≡ 0 → ⊥) → Packs b records records′ → Settles k (current k a b) records records′
+  odd-packed h e p = packed h (odd k a b e) p

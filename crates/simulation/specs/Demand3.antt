@@ -10,11 +10,11 @@ use Rattle.arith.specs.Order.{Within}
 use Rattle.arith.specs.Sums.{Each, sumOver}
 use Rattle.refusal.specs.Refused.{result, either}
 use Rattle.particle.specs.declared.Particle.{Particle}
-use Rattle.apic.specs.Step.{Axis}
+use Rattle.apic.specs.Step.{Axis, Grids}
 use Rattle.apic.specs.Totals.{totalMass, momentum, angularMomentum, torque, firstMoment}
 use Rattle.particles.specs.Set.{particlesIn, checkAnswer}
-use Rattle.simulation.specs.declared.Settings.{Settings}
-use Rattle.simulation.specs.Step.{Grids, gravity, stepped, stepOf, stepAfter}
+use Rattle.settings.specs.declared.Settings.{Settings}
+use Rattle.simulation.specs.Step.{gravity, stepped, stepOf, stepAfter}
 use Rattle.simulation.specs.Run.{runAfter}
 
 -- ---- records

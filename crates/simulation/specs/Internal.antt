@@ -8,24 +8,26 @@ use lib.Dec.{eqb}
 use lib.ListN.{length}
 use lib.IntN.{ℤ, natAbs}
 use Rattle.refusal.specs.Refused.{Answer, result, refusedBy}
-use Rattle.spline.specs.Answers.{table}
+use Rattle.spline.specs.Kernel.{BuiltIn}
 use Rattle.particle.specs.declared.Particle.{Particle}
-use Rattle.particles.specs.Set.{recordsOf, setAnswer}
-use Rattle.unpacked.specs.Unpacked.{unpacked, particlesOf, UnpackedSet}
+use Rattle.particles.specs.Set.{setLength, recordsOf, particlesIn, setAnswer}
+use Rattle.unpacked.specs.Unpacked.{unpacked, Holds, UnpackedSet}
+use Rattle.packing.specs.Packing.{identifiers}
 use Rattle.gather_core.specs.declared.Gathered.{Gathered}
 use Rattle.gather_core.specs.declared.Gathered.the-variants.{Done, Refused}
-use Rattle.simulation.specs.declared.Settings.{Settings}
+use Rattle.settings.specs.declared.Settings.{Settings}
 use Rattle.simulation.specs.declared.Ran.{Ran}
-use Rattle.simulation.specs.Step.{Grids, After, gridsOf, nodesOf, stepped, stepOf}
+use Rattle.apic.specs.Step.{Grids, gridsOf}
+use Rattle.simulation.specs.Step.{seen, nodesOf, stepped, stepOf}
 use Rattle.simulation.specs.Run.{toldRan, runFrom}
 
 -- ---- one step, from an array of particles to another
 
-pub record StepReady (s : Settings) (source : List ℤ) (weights : List (List ℕ)) (mass : List ℕ) (px py target : List ℤ) : Type 0 where
+pub record StepReady (s : Settings) (source : List ℤ) (weights : List (List ℕ)) (d : ℕ) (mass : List ℕ) (px py target : List ℤ) : Type 0 where
   pub set : UnpackedSet (s .nx) (s .ny) source
   pub gravity-x : natAbs (s .gx) ≤ 4096
   pub gravity-y : natAbs (s .gy) ≤ 4096
-  pub is-table : weights ≡ table
+  pub built-in : BuiltIn weights d
   pub mass-long : length mass ≡ s .nx * s .ny
   pub px-long : length px ≡ s .nx * s .ny
   pub py-long : length py ≡ s .nx * s .ny
@@ -41,6 +43,11 @@ pub record StepLeaves (s : Settings) (ps : List Particle) (r : Gathered) (mass :
   pub answer : toldGatheredTo r (stepped s ps) ≡ stepOf s ps
   pub moved : r ≡ Done → target ≡ unpacked (stepped s ps)
 
+-- whichever particles the source holds
+abbrev pub Steps : Settings → List ℤ → Gathered → List ℕ → List ℤ → List ℤ → List ℤ → Type 0
+Steps s source r mass px py target =
+    (ps : List Particle) → Holds (s .nx) (s .ny) source ps → StepLeaves s ps r mass px py target
+
 -- ---- a run, back and forth between two arrays
 
 -- the array that holds the particles after so many steps, and the other
@@ -52,7 +59,7 @@ other steps a b = current steps b a
 
 pub record Turns (s : Settings) (steps : ℕ) (a b : List ℤ) (r : Gathered) (mass : List ℕ) (px py a′ b′ : List ℤ) : Type 0 where
   pub kept : current steps a′ b′ ≡ current steps a b
-  pub step : StepLeaves s (particlesOf (current steps a b)) r mass px py (other steps a′ b′)
+  pub step : Steps s (current steps a b) r mass px py (other steps a′ b′)
 
 -- the records after so many steps that led to the particles qs: where there was none they are as they were
 abbrev pub recordsAfter : List ℕ → ℕ → List Particle → List ℕ
@@ -62,17 +69,41 @@ recordsAfter records (suc n) qs = recordsOf qs
 abbrev pub completedBy : Ran → ℕ
 completedBy r = toldRan r .completed
 
-abbrev pub seen : {A : Type 0} → A → List ℕ → Grids → After A
-seen answer records grids = record { answer = answer; records = records; grids = grids }
+-- a run from the particles ps: those that the array holds after it, under their identifiers, and what a caller sees who gave
+-- any records
+pub record RepeatsFrom (s : Settings) (steps : ℕ) (ps : List Particle) (grids : Grids) (r : Ran) (mass : List ℕ) (px py a b : List ℤ) : Type 0 where
+  pub particles : List Particle
+  pub holds : Holds (s .nx) (s .ny) (current (completedBy r) a b) particles
+  pub named : identifiers particles ≡ identifiers ps
+  pub is : (records : List ℕ) → seen (toldRan r) (recordsAfter records (completedBy r) particles) (gridsOf mass px py) ≡ runFrom s steps records ps grids
 
-pub record Repeats (s : Settings) (steps : ℕ) (ps : List Particle) (grids : Grids) (r : Ran) (mass : List ℕ) (px py a b : List ℤ) : Type 0 where
-  pub set : UnpackedSet (s .nx) (s .ny) (current (completedBy r) a b)
-  pub is : (records : List ℕ) → seen (toldRan r) (recordsAfter records (completedBy r) (particlesOf (current (completedBy r) a b))) (gridsOf mass px py) ≡ runFrom s steps records ps grids
+-- whichever particles the source holds
+abbrev pub Repeats : Settings → ℕ → List ℤ → Grids → Ran → List ℕ → List ℤ → List ℤ → List ℤ → List ℤ → Type 0
+Repeats s steps source grids r mass px py a b =
+    (ps : List Particle) → Holds (s .nx) (s .ny) source ps → RepeatsFrom s steps ps grids r mass px py a b
+
+-- the records after so many steps that led to the particles of this array, whichever they are
+abbrev pub Settles : ℕ → List ℤ → List ℕ → List ℕ → Type 0
+Settles steps l records records′ =
+    (ps : List Particle) → l ≡ unpacked ps → identifiers ps ≡ identifiers (particlesIn records) → records′ ≡ recordsAfter records steps ps
+
+-- what a run of accepted records answers and leaves
+abbrev pub Runs : Settings → ℕ → List ℕ → List ℕ → List ℤ → List ℤ → Ran → List ℕ → List ℕ → List ℤ → List ℤ → Type 0
+Runs s steps records mass px py r records′ mass′ px′ py′ =
+    seen (toldRan r) records′ (gridsOf mass′ px′ py′) ≡ runFrom s steps records (particlesIn records) (gridsOf mass px py)
+
+-- a small set and a middle one have at most so many records
+abbrev pub small : ℕ
+small = 64
+
+abbrev pub middle : ℕ
+middle = 512
 
 -- an accepted set and its grids
 pub record RunReady (s : Settings) (records mass : List ℕ) (px py : List ℤ) : Type 0 where
   pub particles : List Particle
   pub set : setAnswer (s .nx) (s .ny) records ≡ result particles
+  pub most : length records ≤ setLength
   pub gravity-x : natAbs (s .gx) ≤ 4096
   pub gravity-y : natAbs (s .gy) ≤ 4096
   pub mass-long : length mass ≡ s .nx * s .ny

@@ -2,15 +2,15 @@
 -- call. Assumes nothing.
 use mathlib.Core.List.{List}
 use Prim.Native.Nat.{ℕ, zero, suc}
-use lib.Dec.{ltb}
-use Rattle.refusal.specs.Refused.{Answer, refused, refusedBy, refuseIf, either}
+use Rattle.refusal.specs.Refused.{Answer, refused, refusedBy, either, done}
+use Rattle.entry.specs.Entry.{entryAnswer}
 use Rattle.particle.specs.declared.Particle.{Particle}
 use Rattle.particles.specs.Set.{recordsOf}
-use Rattle.update.specs.Checks.{done}
-use Rattle.simulation.specs.declared.Settings.{Settings}
+use Rattle.settings.specs.declared.Settings.{Settings}
 use Rattle.simulation.specs.declared.Ran.{Ran}
 use Rattle.simulation.specs.declared.Ran.the-variants.{Done, Stopped}
-use Rattle.simulation.specs.Step.{Grids, After, checkEntry, setIn, stepOf, nodesOf}
+use Rattle.apic.specs.Step.{Grids}
+use Rattle.simulation.specs.Step.{After, buffersOf, stepOf, nodesOf}
 
 -- "the number of completed steps, and the first refusal if one stopped it"; `done` where none did
 pub record Completion : Type 0 where
@@ -37,7 +37,7 @@ runFrom s (suc n) records ps grids =
 
 -- 2; 1, also for the grid buffers; 10; 17 steps above 10,000; the set
 unfoldable pub runEntry : Settings → ℕ → List ℕ → Grids → Answer (List Particle)
-runEntry s steps records grids = checkEntry s records grids (refuseIf (ltb 10000 steps) 17 0 (setIn s records))
+runEntry s steps records grids = entryAnswer s (buffersOf grids) steps records
 
 -- "a run refused at entry answers 0 completed steps with that refusal", and nothing has changed
 unfoldable pub runAfter : Settings → ℕ → List ℕ → Grids → After Completion

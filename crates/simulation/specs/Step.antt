@@ -1,20 +1,21 @@
 -- Document 01, "The step" and the operation step: scatter, update and gather on a particle set, and what a caller with any
 -- numbers and any buffers sees after a call: the answer, the records and the three grids. Assumes nothing.
 use mathlib.Core.Path.{_≡_}
-use mathlib.Core.Bool.{not}
 use mathlib.Core.List.{List, map}
 use Prim.Native.Nat.{ℕ, _*_}
 use lib.ListN.{length}
-use lib.IntN.{ℤ, pos, natAbs}
-use Rattle.refusal.specs.Refused.{Answer, result, refused, refusedBy, refuseIf, either}
-use Rattle.spline.specs.Spline.{axisWeight}
+use lib.IntN.{ℤ, natAbs}
+use Rattle.refusal.specs.Refused.{Answer, result, refused, refusedBy, either, done}
+use Rattle.spline.specs.Spline.{axisWeight, D}
 use Rattle.particle.specs.declared.Particle.{Particle}
-use Rattle.apic.specs.Step.{Axis, alongX, alongY, grid, nodeMass, nodeMomentum}
-use Rattle.particles.specs.Set.{validSize, validLength, recordCount, setOf, recordsOf}
+use Rattle.apic.specs.Step.{Axis, alongX, alongY, Grids, gridsOf, grid, nodeMass, nodeMomentum}
+use Rattle.particles.specs.Set.{recordsOf}
 use Rattle.gather_core.specs.Gather.{gathered, moveChecks}
-use Rattle.update.specs.Checks.{checkLengths, checkGravity, done}
+use Rattle.entry.specs.declared.Buffers.{Buffers}
+use Rattle.entry.specs.declared.Buffers.the-variants.{Three}
+use Rattle.entry.specs.Entry.{entryAnswer}
 use Rattle.update.specs.Update.{velocities}
-use Rattle.simulation.specs.declared.Settings.{Settings}
+use Rattle.settings.specs.declared.Settings.{Settings}
 use Rattle.simulation.specs.declared.Stepped.{Stepped}
 use Rattle.simulation.specs.declared.Stepped.the-variants.{Done, Refused}
 
@@ -29,7 +30,7 @@ unfoldable pub masses : Settings → List Particle → List ℕ
 masses s ps = grid (s .nx) (s .ny) (λ i j. natAbs (nodeMass axisWeight ps i j))
 
 unfoldable pub momenta : Settings → Axis → List Particle → List ℤ
-momenta s a ps = grid (s .nx) (s .ny) (nodeMomentum axisWeight (pos 1024) a ps)
+momenta s a ps = grid (s .nx) (s .ny) (nodeMomentum axisWeight D a ps)
 
 -- the node velocities on an axis after the update
 unfoldable pub updatedVelocities : Settings → Axis → List Particle → List ℤ
@@ -37,7 +38,7 @@ updatedVelocities s a ps = velocities (s .nx * s .ny) (gravity s a) (masses s ps
 
 -- a particle after the gather
 abbrev pub move : Settings → List Particle → Particle → Particle
-move s ps = gathered (s .nx) (s .ny) (updatedVelocities s alongX ps) (updatedVelocities s alongY ps)
+move s ps = gathered axisWeight (s .nx) (s .ny) (updatedVelocities s alongX ps) (updatedVelocities s alongY ps)
 
 -- the particles after a step
 unfoldable pub stepped : Settings → List Particle → List Particle
@@ -49,15 +50,6 @@ stepOf s ps = moveChecks (s .nx) (s .ny) (move s ps) 0 ps (result (stepped s ps)
 
 -- ---- what a caller sees
 
--- the three grids: node masses, and momenta or velocities on each axis
-pub record Grids : Type 0 where
-  pub mass : List ℕ
-  pub x : List ℤ
-  pub y : List ℤ
-
-abbrev pub gridsOf : List ℕ → List ℤ → List ℤ → Grids
-gridsOf mass x y = record { mass = mass; x = x; y = y }
-
 -- "the grid holds masses and updated velocities of the last step tried"
 abbrev pub nodesOf : Settings → List Particle → Grids
 nodesOf s ps = record { mass = masses s ps; x = updatedVelocities s alongX ps; y = updatedVelocities s alongY ps }
@@ -67,6 +59,9 @@ pub record After (A : Type 0) : Type 0 where
   pub answer : A
   pub records : List ℕ
   pub grids : Grids
+
+abbrev pub seen : {A : Type 0} → A → List ℕ → Grids → After A
+seen answer records grids = record { answer = answer; records = records; grids = grids }
 
 -- what a caller sees is what a definition says, and nothing else: for the promises of step and run
 pub record Sees {A : Type 0} (after : After A) (told : A) (bytes mass : List ℕ) (x y : List ℤ) : Type 0 where
@@ -78,20 +73,12 @@ pub record Sees {A : Type 0} (after : After A) (told : A) (bytes mass : List ℕ
 
 -- ---- the operation
 
--- 2; 1, also for the grid buffers; 10
-abbrev pub checkEntry : {A : Type 0} → Settings → List ℕ → Grids → Answer A → Answer A
-checkEntry s records grids rest =
-    refuseIf (not (validSize (s .nx) (s .ny))) 2 0
-    (refuseIf (not (validLength (length records))) 1 0
-    (checkLengths (s .nx * s .ny) (length (grids .mass)) (length (grids .x)) (length (grids .y))
-    (checkGravity (s .gx) (s .gy) rest)))
+abbrev pub buffersOf : Grids → Buffers
+buffersOf grids = Three (length (grids .mass)) (length (grids .x)) (length (grids .y))
 
--- the set
-abbrev pub setIn : Settings → List ℕ → Answer (List Particle)
-setIn s records = setOf (s .nx) (s .ny) 0 records (recordCount records)
-
+-- 2; 1, also for the grid buffers; 10; the set
 unfoldable pub stepEntry : Settings → List ℕ → Grids → Answer (List Particle)
-stepEntry s records grids = checkEntry s records grids (setIn s records)
+stepEntry s records grids = entryAnswer s (buffersOf grids) 0 records
 
 -- a step from the particles ps of the records: on 13, 14, 15 no record has moved
 unfoldable pub stepFrom : Settings → List ℕ → List Particle → After (Answer Unit)

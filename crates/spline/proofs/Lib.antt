@@ -1,3 +1,4 @@
 pub mod Table
 pub mod Axis
+pub mod Spline
 pub mod Offsets

@@ -1,23 +1,26 @@
 -- The table of weights: what a table that passes the test of specs/Test.antt gives at each offset.
---     RowFacts       at offset q: the weights are natural numbers, total 8192, and have moments 0 and 8192·1024
+--     RowFacts       at offset q: the weights are natural numbers, total 8192, and have moments 0 and 8192·D
 --     RowPassed      a row that passes holds the formulas' values, and its offset has these facts
 --     passed-table   a table that passes is the table of the formulas' values
 --     passed-facts   and each of its 64 offsets has the facts
 --     row-facts      so the facts hold, since `table` passes; that the constant passes is the contract of `tested_table`
 --     table-row      what stands at row k
+--     spline-kernel  the table with the spline's D is a kernel
 -- Assumes nothing.
 use mathlib.Core.Path.{_≡_, refl, sym, ap, subst, _∙_}
 use mathlib.Core.List.{List, [], _∷_, map}
 use Prim.Native.Nat.{ℕ, zero, suc, _+_, _<_}
 use native.Mathlib.Nat.{zero-add, add-suc, suc-add, add-zero, le-of-suc-le-suc, not-suc-le-zero}
 use native.Mathlib.Omega.{arith}
-use lib.Dec.{T, eqb, eqb→eq}
+use lib.Dec.{T, eqb, eqb→eq, lit≤}
 use lib.ListN.{length, getD}
 use lib.IntN.{ℤ, pos, negsuc, natAbs, _+ℤ_, _-ℤ_, _*ℤ_}
 use mir.Facts.{and-yes}
+use Rattle.arith.specs.Lists.{getD-tabulated}
 use Rattle.arith.specs.Sums.{from}
-use Rattle.spline.specs.Spline.{lowerWeight, nearestWeight, upperWeight}
-use Rattle.spline.specs.Answers.{table, tableRow}
+use Rattle.spline.specs.Spline.{D, lowerWeight, nearestWeight, upperWeight}
+use Rattle.spline.specs.Answers.{table, tableRow, rowOf}
+use Rattle.spline.specs.Kernel.{RowMoments, Spread, Kernel}
 use Rattle.spline.specs.Test.{sameℤ, allSame, rowMoment, claims, rowPasses, passesFrom, passes}
 
 -- ---- one row
@@ -48,7 +51,7 @@ pub record RowFacts (q : ℤ) : Type 0 where
   pub upper : pos (natAbs (upperWeight q)) ≡ upperWeight q
   pub total : lowerWeight q +ℤ nearestWeight q +ℤ upperWeight q ≡ pos 8192
   pub first : moment q (λ d. d) ≡ pos 0
-  pub second : moment q (λ d. d *ℤ d) ≡ pos 8192 *ℤ pos 1024
+  pub second : moment q (λ d. d *ℤ d) ≡ pos 8192 *ℤ pos D
 
 pub record RowPassed (q : ℤ) (row : List ℕ) : Type 0 where
   pub is : row ≡ tableRow q
@@ -60,10 +63,14 @@ natural n z e = subst (λ z. pos (natAbs z) ≡ z) e refl
 
 three-numbers : (q : ℤ) (l n u : ℕ) → T (allSame (claims q (pos l) (pos n) (pos u))) → RowPassed q (l ∷ n ∷ u ∷ [])
 three-numbers q l n u t =
-    let h = all-hold (claims q (pos l) (pos n) (pos u)) t in
-    let lower = h .0 in
-    let nearest = h .1 .0 in
-    let upper = h .1 .1 .0 in
+    let formulas = all-hold (claims q (pos l) (pos n) (pos u)) t in
+    let lower = formulas .0 in
+    let nearest = formulas .1 .0 in
+    let upper = formulas .1 .1 .0 in
+    let sums = formulas .1 .1 .1 in
+    let total = sums .0 in
+    let first = sums .1 .0 in
+    let second = sums .1 .1 .0 in
     record {
       is = λ i. natAbs (lower i) ∷ natAbs (nearest i) ∷ natAbs (upper i) ∷ [];
       facts =
@@ -71,9 +78,9 @@ three-numbers q l n u t =
             lower = natural l (lowerWeight q) lower;
             nearest = natural n (nearestWeight q) nearest;
             upper = natural u (upperWeight q) upper;
-            total = sym (λ i. lower i +ℤ nearest i +ℤ upper i) ∙ h .1 .1 .1 .0;
-            first = sym (λ i. rowMoment q (lower i) (nearest i) (upper i) (λ d. d)) ∙ h .1 .1 .1 .1 .0;
-            second = sym (λ i. rowMoment q (lower i) (nearest i) (upper i) (λ d. d *ℤ d)) ∙ h .1 .1 .1 .1 .1 .0;
+            total = sym (λ i. lower i +ℤ nearest i +ℤ upper i) ∙ total;
+            first = sym (λ i. rowMoment q (lower i) (nearest i) (upper i) (λ d. d)) ∙ first;
+            second = sym (λ i. rowMoment q (lower i) (nearest i) (upper i) (λ d. d *ℤ d)) ∙ second;
           };
     }
 
@@ -128,11 +135,27 @@ module _ (rows : List (List ℕ)) (t : T (passes rows)) where
 pub row-facts : (k : ℕ) → k < 64 → RowFacts (offsetOf k)
 row-facts k h = passed-facts table tt k h
 
-getD-tabulated : (f : ℕ → List ℕ) (i n k : ℕ) → k < n → getD (map f (from i n)) k [] ≡ f (i + k)
-getD-tabulated f i zero k h = absurd (not-suc-le-zero h)
-getD-tabulated f i (suc n) zero h = ap f (sym (add-zero i))
-getD-tabulated f i (suc n) (suc k) h = getD-tabulated f (suc i) n k (le-of-suc-le-suc h) ∙ ap f (suc-add i k ∙ sym (add-suc i k))
-
 pub table-row : (k : ℕ) → k < 64 → getD table k [] ≡ tableRow (pos k -ℤ pos 32)
-table-row k h =
-    getD-tabulated (λ m. tableRow (pos m -ℤ pos 32)) 0 64 k h ∙ ap (λ m. tableRow (pos m -ℤ pos 32)) (zero-add k)
+table-row k h = getD-tabulated (λ m. tableRow (pos m -ℤ pos 32)) 64 k [] h
+
+-- ---- as a kernel
+
+row-moments : (q : ℤ) → RowFacts q → RowMoments D q (rowOf (tableRow q))
+row-moments q f =
+    record {
+      total = ap natAbs ((λ i. f .lower i +ℤ f .nearest i +ℤ f .upper i) ∙ f .total);
+      first = (λ i. rowMoment q (f .lower i) (f .nearest i) (f .upper i) (λ d. d)) ∙ f .first;
+      second = (λ i. rowMoment q (f .lower i) (f .nearest i) (f .upper i) (λ d. d *ℤ d)) ∙ f .second;
+    }
+
+pub spline-spread : Spread D
+spline-spread = record { least = lit≤ tt; most = lit≤ tt; whole = refl }
+
+pub spline-kernel : Kernel table D
+spline-kernel =
+    record {
+      rows = refl;
+      numbers = λ k h. ap length (table-row k h);
+      moments = λ k h. subst (λ row. RowMoments D (offsetOf k) (rowOf row)) (sym (table-row k h)) (row-moments (offsetOf k) (row-facts k h));
+      spread = spline-spread;
+    }

@@ -1,6 +1,5 @@
 -- What the transfers may use of an axis's weights: over all n nodes, the weights w of a particle at x are never negative,
--- total 8192, have first moment 0 and second moment 8192·D about the particle. For the quadratic spline D is 1024, a
--- quarter of the squared spacing (source document 002). Assumes nothing.
+-- total 8192, have first moment 0 and second moment 8192·D about the particle. Assumes nothing.
 use mathlib.Core.Path.{_≡_}
 use Prim.Native.Nat.{ℕ}
 use lib.IntN.{ℤ, pos, _*ℤ_}

@@ -20,6 +20,10 @@ onAxis n x = leb 32 x && leb x (64 * (n - 1) - 33)
 abbrev pub displacement : ℕ → ℕ → ℤ
 displacement x i = pos (64 * i) -ℤ pos x
 
+-- the spline's second moment: a quarter of the squared spacing (source document 002)
+abbrev pub D : ℕ
+D = 1024
+
 -- the weights of the lower, the nearest and the upper node at offset q
 abbrev pub lowerWeight : ℤ → ℤ
 lowerWeight q = (pos 32 -ℤ q) *ℤ (pos 32 -ℤ q)
@@ -36,7 +40,3 @@ axisWeight x i =
     cond (eqb (i + 1) (nearestNode x)) (lowerWeight (offset x))
     (cond (eqb i (nearestNode x)) (nearestWeight (offset x))
     (cond (eqb i (nearestNode x + 1)) (upperWeight (offset x)) (pos 0)))
-
--- the weight of node (i, j) for a particle at (x, y): the product over both axes
-unfoldable pub nodeWeight : ℕ → ℕ → ℕ → ℕ → ℤ
-nodeWeight x y i j = axisWeight x i *ℤ axisWeight y j

@@ -7,7 +7,7 @@ use Prim.Native.Nat.{ℕ, suc}
 use lib.Dec.{eqb}
 use lib.ListN.{length, getD}
 use lib.IntN.{ℤ, pos, negsuc, negℤ, _+ℤ_, _-ℤ_, _*ℤ_}
-use Rattle.spline.specs.Spline.{lowerWeight, nearestWeight, upperWeight}
+use Rattle.spline.specs.Spline.{D, lowerWeight, nearestWeight, upperWeight}
 
 abbrev pub sameℤ : ℤ → ℤ → Bool
 sameℤ (pos a) (pos b) = eqb a b
@@ -32,7 +32,7 @@ claims q lower nearest upper =
     ∷ (upper, upperWeight q)
     ∷ (lower +ℤ nearest +ℤ upper, pos 8192)
     ∷ (rowMoment q lower nearest upper (λ d. d), pos 0)
-    ∷ (rowMoment q lower nearest upper (λ d. d *ℤ d), pos 8192 *ℤ pos 1024)
+    ∷ (rowMoment q lower nearest upper (λ d. d *ℤ d), pos 8192 *ℤ pos D)
     ∷ []
 
 abbrev pub rowPasses : ℤ → List ℕ → Bool

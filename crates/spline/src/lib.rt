@@ -1,10 +1,9 @@
 // The quadratic B-spline along one axis, in whole numbers: node spacing 64, weights that total 8192.
 ghost use mathlib.Core.Path.{_≡_};
-ghost use Prim.Native.Nat.{_<_};
-ghost use lib.ListN.{getD};
+ghost use Prim.Native.Nat.{_≤_};
 ghost use lib.Dec.{T};
-ghost use mathlib.Core.List.{[]};
-ghost use Rattle.spline.specs.Answers.{toldWeights, weightsAnswer, rowOf, table};
+ghost use Rattle.spline.specs.Answers.{toldWeights, weightsAnswer, table};
+ghost use Rattle.spline.specs.Kernel.{weightsAt};
 ghost use Rattle.spline.specs.Test.{passes};
 use refusal::Refusal;
 
@@ -19,6 +18,9 @@ pub enum Weighed {
     Weights(AxisWeights),
     Refused(Refusal),
 }
+
+// The weights' second moment for a total of 1, in squared position units: the D of the transfers.
+pub const D: u64 = 1024;
 
 // A row for each offset, from −32 on.
 const WEIGHTS: [[u16; 3]; 64] = [
@@ -95,22 +97,24 @@ fn tested_table() -> [[u16; 3]; 64]
     WEIGHTS
 }
 
-// The table, for a caller that looks many weights up and lends it to `row`.
+// The table, for a caller that looks many weights up and lends it to `weights_at`.
 pub fn weight_table() -> [[u16; 3]; 64]
     ensures { λ r. ⌜ r ≡ table ⌝ }
 {
     tested_table()
 }
 
-// The row of an offset, counted from −32, in the table that the caller lends. The transfers call it.
-pub fn row(weights: &[[u16; 3]; 64], k: usize) -> AxisWeights
-    requires { ⌜ k < 64 ⌝ }
-    ensures { λ r. ⌜ r ≡ rowOf (getD (now (weights .entry)) k []) ⌝ }
+// The weights of the three nodes around a particle at x, in the table that the caller lends: the row of its offset. The
+// transfers call it.
+pub fn weights_at(table: &[[u16; 3]; 64], x: usize) -> AxisWeights
+    requires { ⌜ x ≤ 4095 ⌝ }
+    ensures { λ r. ⌜ r ≡ weightsAt (now (table .entry)) x ⌝ }
 {
+    let k = (x + 32) % 64;
     AxisWeights {
-        lower: weights[k][0],
-        nearest: weights[k][1],
-        upper: weights[k][2],
+        lower: table[k][0],
+        nearest: table[k][1],
+        upper: table[k][2],
     }
 }
 

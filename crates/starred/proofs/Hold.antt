@@ -5,12 +5,12 @@ use Rattle.spline.specs.Spline.{nearestNode, offset, onAxis, axisWeight}
 use Rattle.particle.specs.Record.{particleOf, recordOf, readParticle, readAnswer}
 use Rattle.particles.specs.Set.{admitted, setFrom, recordsOf, particlesIn}
 use Rattle.apic.specs.Step.{nodeMass, nodeMomentum, nodeVelocity, gatheredVelocity, gatheredAffine, moved}
-use Rattle.unpacked.specs.Unpacked.{unpacked}
 use Rattle.gather_core.specs.Gather.{moveCheck, moveChecks}
 use Rattle.update.specs.Update.{velocities}
+use Rattle.entry.specs.Entry.{beginAnswer, entryAnswer}
 use Rattle.simulation.specs.Step.{masses, momenta, updatedVelocities, stepped, stepOf, stepEntry, stepFrom, stepAfter}
 use Rattle.starred.specs.Examples.{examples, ExamplesHold}
 
 pub examples-hold : ExamplesHold
-unfolding nearest nearestNode offset onAxis axisWeight particleOf recordOf readParticle readAnswer admitted setFrom recordsOf particlesIn nodeMass nodeMomentum nodeVelocity gatheredVelocity gatheredAffine moved unpacked moveCheck moveChecks velocities masses momenta updatedVelocities stepped stepOf stepEntry stepFrom stepAfter examples
+unfolding nearest nearestNode offset onAxis axisWeight particleOf recordOf readParticle readAnswer admitted setFrom recordsOf particlesIn nodeMass nodeMomentum nodeVelocity gatheredVelocity gatheredAffine moved moveCheck moveChecks velocities masses momenta updatedVelocities stepped stepOf entryAnswer beginAnswer stepEntry stepFrom stepAfter examples
 examples-hold = refl

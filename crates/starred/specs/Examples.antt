@@ -1,6 +1,6 @@
 -- Document 01's starred examples, one row each: what the operations' definitions answer, and what they must. A row is an answer
 -- with numbers: the three weights of Weights; the number of records of Check a set; of Step the particles in the records that
--- it leaves, ten numbers each, or the node velocities that it leaves on the x axis.
+-- it leaves, their identifier and nine numbers each, or the node velocities that it leaves on the x axis.
 -- The grid has 4 by 5 nodes, and what the example leaves open differs on the two axes. Assumes nothing.
 use mathlib.Core.Path.{_≡_}
 use mathlib.Core.List.{List, [], _∷_, _++_, map}
@@ -12,8 +12,9 @@ use Rattle.spline.specs.Answers.{weightsAnswer}
 use Rattle.particle.specs.declared.Particle.{Particle}
 use Rattle.particle.specs.Record.{recordOf}
 use Rattle.particles.specs.Set.{checkAnswer, recordsOf, particlesIn}
-use Rattle.unpacked.specs.Unpacked.{unpacked}
-use Rattle.simulation.specs.Step.{Grids, After, stepAfter}
+use Rattle.unpacked.specs.Unpacked.{numbers}
+use Rattle.apic.specs.Step.{Grids}
+use Rattle.simulation.specs.Step.{After, stepAfter}
 
 -- without Bxy, Byx and Byy
 abbrev particle : ℕ → ℕ → ℕ → ℕ → ℤ → ℤ → ℤ → Particle
@@ -46,8 +47,12 @@ lent = record { mass = replicate 20 3; x = replicate 20 (pos 5); y = replicate 2
 abbrev after : ℤ → ℤ → List Particle → After (Answer Unit)
 after gx gy ps = stepAfter (record { nx = 4; ny = 5; gx = gx; gy = gy }) (recordsOf ps) lent
 
+abbrev listed : List Particle → List ℤ
+listed [] = []
+listed (p ∷ ps) = pos (p .identifier) ∷ numbers p ++ listed ps
+
 abbrev stepping : ℤ → ℤ → List Particle → Answer (List ℤ)
-stepping gx gy ps = andThen (after gx gy ps .answer) (λ _. result (unpacked (particlesIn (after gx gy ps .records))))
+stepping gx gy ps = andThen (after gx gy ps .answer) (λ _. result (listed (particlesIn (after gx gy ps .records))))
 
 abbrev nodeVelocities : List Particle → Answer (List ℤ)
 nodeVelocities ps = andThen (after (pos 0) (pos 0) ps .answer) (λ _. result (after (pos 0) (pos 0) ps .grids .x))
@@ -80,14 +85,14 @@ examples =
     ∷ (checking 159, result (pos 1 ∷ []))
     ∷ (checking 160, refused 7 0)
     -- gx 127 gives vx 0, 128 gives 1, −128 gives −1; gy is −2 velocity units
-    ∷ (stepping (pos 127) (negℤ (pos 512)) (lone (pos 0)), result (unpacked (loneAt 64 62 (pos 0) (negℤ (pos 2)))))
-    ∷ (stepping (pos 128) (negℤ (pos 512)) (lone (pos 0)), result (unpacked (loneAt 65 62 (pos 1) (negℤ (pos 2)))))
-    ∷ (stepping (negℤ (pos 128)) (negℤ (pos 512)) (lone (pos 0)), result (unpacked (loneAt 63 62 (negℤ (pos 1)) (negℤ (pos 2)))))
+    ∷ (stepping (pos 127) (negℤ (pos 512)) (lone (pos 0)), result (listed (loneAt 64 62 (pos 0) (negℤ (pos 2)))))
+    ∷ (stepping (pos 128) (negℤ (pos 512)) (lone (pos 0)), result (listed (loneAt 65 62 (pos 1) (negℤ (pos 2)))))
+    ∷ (stepping (negℤ (pos 128)) (negℤ (pos 512)) (lone (pos 0)), result (listed (loneAt 63 62 (negℤ (pos 1)) (negℤ (pos 2)))))
     -- Bxx = 1024 and no gravity: v stays 0 and B is unchanged
-    ∷ (stepping (pos 0) (pos 0) (lone (pos 1024)), result (unpacked (lone (pos 1024))))
+    ∷ (stepping (pos 0) (pos 0) (lone (pos 1024)), result (listed (lone (pos 1024))))
     -- vx 1 and 0: node velocity 85, both vx become 0
     ∷ (nodeVelocities (pair (pos 1) (pos 0)), result (nodes (pos 85) ++ nodes (pos 85) ++ nodes (pos 85) ++ nodes (pos 0) ++ nodes (pos 0)))
-    ∷ (stepping (pos 0) (pos 0) (pair (pos 1) (pos 0)), result (unpacked (pair (pos 0) (pos 0))))
+    ∷ (stepping (pos 0) (pos 0) (pair (pos 1) (pos 0)), result (listed (pair (pos 0) (pos 0))))
     ∷ []
 
 -- every row holds

@@ -1,4 +1,4 @@
-pub mod Entry
+pub mod Sets
 pub mod Moving
 pub mod Parts
 pub mod Scatters

@@ -1,197 +1,161 @@
 -- Gather: some records of a set by the core, and part after part.
---     gatherable, pack-ready        what the core and the packing ask of some records
---     refused-part, done-part       what is left after the core's answer
+--     gatherable, moved-part        what the core asks of some records, and what it leaves
 --     Walk, start, part-ready, part-room, turn, stop, last
 --                                   the loop over the parts of a set: k records are moved, and the answer is that of the others
 -- Assumes nothing.
 use mathlib.Core.Path.{_≡_, refl, sym, ap, ap₂, _∙_, subst}
-use mathlib.Core.List.{List, [], _∷_, _++_, map, map-append, append-assoc}
-use Prim.Native.Nat.{ℕ, _+_, _-_, _*_, _/_, _≤_, zero-le}
+use mathlib.Core.List.{List, _++_, map, map-append, append-assoc}
+use Prim.Native.Nat.{ℕ, _+_, _-_, _*_, _≤_, zero-le}
 use native.Mathlib.Omega.{arith}
-use lib.ListN.{length, take, drop, length-append, length-drop, length-map, take-append-drop}
+use lib.ListN.{length, take, drop, length-append, length-drop, take-append-drop}
 use lib.Seq.{length-take-le, take-all, take-add, take-at, drop-drop, drop-length}
 use lib.IntN.{ℤ}
 use Rattle.refusal.specs.Refused.{Answer, result, refused}
 use Rattle.refusal.specs.declared.Refusal.{Refusal}
 use Rattle.refusal.proofs.Answers.{not-result}
 use Rattle.particle.specs.declared.Particle.{Particle}
-use Rattle.particle.specs.Record.{recordOf}
+use Rattle.particle.specs.Layout.{recordLength}
 use Rattle.apic.specs.Limits.{SetLimits}
-use Rattle.particles.specs.Set.{recordCount, recordsOf, particlesIn}
-use Rattle.unpacked.specs.Unpacked.{unpacked, particlesOf, UnpackedSet}
-use Rattle.unpacked.proofs.Laws.{length-unpacked, particlesOf-unpacked}
-use Rattle.packing.specs.Packing.{Packable}
+use Rattle.particles.specs.Set.{recordCount, particlesIn}
+use Rattle.unpacked.specs.Unpacked.{perParticle, unpacked, Holds}
+use Rattle.unpacked.proofs.Laws.{unpacked-append, numbers-count}
 use Rattle.packing.proofs.Parts.{count-part, particles-part}
-use Rattle.packing.proofs.Sets.{count-in, unpacked-set}
+use Rattle.packing.proofs.Sets.{count-in}
 use Rattle.scatter_core.proofs.Parts.{limits-part}
 use Rattle.gather_core.specs.declared.Gathered.{Gathered}
-use Rattle.gather_core.specs.declared.Gathered.the-variants.{Done, Refused}
-use Rattle.gather_core.specs.Gather.{gathered, moveChecks, answerFrom, toldGathered, Gatherable, GathersFrom}
+use Rattle.gather_core.specs.declared.Gathered.the-variants.{Refused}
+use Rattle.gather_core.specs.Gather.{gathered, moveChecks, answerFrom, toldGathered, Gatherable, Gathers}
 use Rattle.gather_core.proofs.Checks.{follow, checks-follow, checks-append}
-use Rattle.gather_core.proofs.Kept.{all-moved, target-set}
+use Rattle.gather_core.proofs.Kept.{all-moved}
 use Rattle.transfer.specs.Internal.{MoveReady, PartRoom, MovedFrom}
 
 -- ---- some records, by the core
 
-module _ {nx ny : ℕ} (records : List ℕ) {weights : List (List ℕ)} {ux uy source : List ℤ} (ready : MoveReady nx ny records weights ux uy) (e : source ≡ unpacked (particlesIn records)) where
-  source-set : UnpackedSet nx ny source
-  source-set = subst (UnpackedSet nx ny) (sym e) (unpacked-set nx ny (particlesIn records) (ready .limits))
+module _ {nx ny : ℕ} (records : List ℕ) {ux uy source : List ℤ} (ready : MoveReady nx ny records ux uy) (e : source ≡ unpacked (particlesIn records)) where
+  source-holds : Holds nx ny source (particlesIn records)
+  source-holds = record { is = e; limits = ready .limits }
 
-  source-is : particlesOf source ≡ particlesIn records
-  source-is = ap particlesOf e ∙ particlesOf-unpacked (particlesIn records)
+  as-many : {n : ℕ} → n ≡ perParticle * recordCount records → n ≡ length source
+  as-many h = h ∙ sym (numbers-count source-holds ∙ ap (λ n. perParticle * n) (count-in records))
 
-  pub gatherable : {target : List ℤ} → length target ≡ 10 * recordCount records → Gatherable nx ny source weights ux uy target
+  pub gatherable : {target : List ℤ} → length target ≡ perParticle * recordCount records → Gatherable nx ny source ux uy target
   gatherable h =
       record {
-        particles = source-set;
-        weights-are = ready .is-table;
+        particles = record { particles = particlesIn records; holds = source-holds };
         x-velocities = ready .x-velocities;
         y-velocities = ready .y-velocities;
-        room = h ∙ sym (ap length e ∙ length-unpacked (particlesIn records) ∙ ap (λ n. 10 * n) (count-in records));
+        room = as-many h;
       }
 
-  module _ {first : ℕ} {held target : List ℤ} (room : length held ≡ 10 * recordCount records) {r : Gathered} (g : GathersFrom first nx ny source ux uy held target r) where
-    told : toldGathered r ≡ answerFrom first nx ny ux uy (particlesIn records)
-    told = g .answer ∙ ap (answerFrom first nx ny ux uy) source-is
-
-    pub refused-part : {moved : List ℕ} {f : Refusal} → r ≡ Refused f → MovedFrom first nx ny records ux uy moved (Refused f)
-    refused-part h = record { answer = ap toldGathered (sym h) ∙ told; records-are = λ no. not-result no }
-
-    module _ (h : r ≡ Done) where
-      target-is : target ≡ unpacked (map (gathered nx ny ux uy) (particlesIn records))
-      target-is = all-moved (gatherable room) g (ap toldGathered h) ∙ ap (λ ps. unpacked (map (gathered nx ny ux uy) ps)) source-is
-
-      pub pack-ready : {bytes : ℕ} → bytes ≡ 14 * recordCount records → Packable target × (bytes ≡ 14 * (length target / 10))
-      pack-ready m =
-          (record { nx = nx; ny = ny; set = target-set (gatherable room) g (ap toldGathered h) }, m ∙ ap (λ n. 14 * n) (count (recordCount records) (length target) numbers))
-        where
-          numbers : length target ≡ 10 * recordCount records
-          numbers =
-              ap length target-is
-              ∙ length-unpacked (map (gathered nx ny ux uy) (particlesIn records))
-              ∙ ap (λ n. 10 * n) (length-map (particlesIn records) (gathered nx ny ux uy) ∙ count-in records)
-
-          count : (n l : ℕ) → l ≡ 10 * n → n ≡ l / 10
-          count n l b = omega arith
-
-      pub done-part : {moved : List ℕ} → moved ≡ recordsOf (particlesOf target) → MovedFrom first nx ny records ux uy moved Done
-      done-part w =
-          record {
-            answer = ap toldGathered (sym h) ∙ told;
-            records-are = λ _. w ∙ ap recordsOf (ap particlesOf target-is ∙ particlesOf-unpacked (map (gathered nx ny ux uy) (particlesIn records)));
-          }
+  pub moved-part : {w : ℕ → ℕ → ℤ} {first : ℕ} {held target : List ℤ} {r : Gathered} → length held ≡ perParticle * recordCount records → Gathers w first nx ny source ux uy held target r → MovedFrom w first nx ny records ux uy target r
+  moved-part room g =
+      let f = g (particlesIn records) source-holds in
+      record { answer = f .answer; target-is = λ done. all-moved source-holds (as-many room) f done }
 
 -- ---- part after part
 
-records-append : (ps qs : List Particle) → recordsOf (ps ++ qs) ≡ recordsOf ps ++ recordsOf qs
-unfolding recordsOf
-records-append [] qs = refl
-records-append (p ∷ ps) qs = ap (λ l. recordOf p ++ l) (records-append ps qs) ∙ sym (append-assoc (recordOf p) (recordsOf ps) (recordsOf qs))
-
-pub record Walk (nx ny : ℕ) (records : List ℕ) (ux uy : List ℤ) (moved : List ℕ) (k : ℕ) : Type 0 where
+pub record Walk (w : ℕ → ℕ → ℤ) (nx ny : ℕ) (records : List ℕ) (ux uy target : List ℤ) (k : ℕ) : Type 0 where
   pub within : k ≤ recordCount records
-  pub bytes : length moved ≡ length records
-  pub taken : take (14 * k) moved ≡ recordsOf (map (gathered nx ny ux uy) (take k (particlesIn records)))
-  pub answer : answerFrom 0 nx ny ux uy (particlesIn records) ≡ answerFrom k nx ny ux uy (drop k (particlesIn records))
+  pub room : length target ≡ perParticle * recordCount records
+  pub taken : take (perParticle * k) target ≡ unpacked (map (gathered w nx ny ux uy) (take k (particlesIn records)))
+  pub answer : answerFrom w 0 nx ny ux uy (particlesIn records) ≡ answerFrom w k nx ny ux uy (drop k (particlesIn records))
 
-pub start : (nx ny : ℕ) (records : List ℕ) (ux uy : List ℤ) (moved : List ℕ) → length moved ≡ length records → Walk nx ny records ux uy moved 0
-unfolding recordsOf
-start nx ny records ux uy moved e = record { within = zero-le; bytes = e; taken = refl; answer = refl }
+pub start : (w : ℕ → ℕ → ℤ) (nx ny : ℕ) (records : List ℕ) (ux uy target : List ℤ) → length target ≡ perParticle * recordCount records → Walk w nx ny records ux uy target 0
+unfolding unpacked
+start w nx ny records ux uy target e = record { within = zero-le; room = e; taken = refl; answer = refl }
 
 -- n records more, of m bytes
-module _ {nx ny : ℕ} {records : List ℕ} {weights : List (List ℕ)} {ux uy : List ℤ} (ready : MoveReady nx ny records weights ux uy) {moved : List ℕ} {k : ℕ} (w : Walk nx ny records ux uy moved k) (n m : ℕ) (size : m ≡ 14 * n) (inside : k + n ≤ recordCount records) where
-  abbrev part : List ℕ
-  part = take m (drop (14 * k) records)
+module _ {w : ℕ → ℕ → ℤ} {nx ny : ℕ} {records : List ℕ} {ux uy : List ℤ} (ready : MoveReady nx ny records ux uy) {target : List ℤ} {k : ℕ} (before : Walk w nx ny records ux uy target k) (n m : ℕ) (size : m ≡ recordLength * n) (inside : k + n ≤ recordCount records) where
+  abbrev these : List ℕ
+  these = take m (drop (recordLength * k) records)
 
-  abbrev these : List Particle
-  these = take n (drop k (particlesIn records))
-
-  these-are : particlesIn part ≡ these
+  these-are : particlesIn these ≡ take n (drop k (particlesIn records))
   these-are = particles-part records k n m size inside
 
-  pub part-ready : MoveReady nx ny part weights ux uy
+  pub part-ready : MoveReady nx ny these ux uy
   part-ready =
       record {
         limits = subst (SetLimits nx ny) (sym these-are) (limits-part (particlesIn records) (ready .limits) k n);
-        is-table = ready .is-table;
         x-velocities = ready .x-velocities;
         y-velocities = ready .y-velocities;
       }
 
-  -- the bytes that the part is moved to
-  module _ (m′ : ℕ) (size′ : m′ ≡ 14 * n) where
-    long : length (take m′ (drop (14 * k) moved)) ≡ 14 * n
-    long = length-take-le m′ (drop (14 * k) moved) (omega (arith, length-drop (14 * k) moved, w .bytes)) ∙ size′
+  -- the numbers that the part is moved to
+  module _ (i : ℕ) (numbers : i ≡ perParticle * n) where
+    long : length (take i (drop (perParticle * k) target)) ≡ perParticle * n
+    long = length-take-le i (drop (perParticle * k) target) (omega (arith, length-drop (perParticle * k) target, before .room)) ∙ numbers
 
-    pub part-room : {source target : List ℤ} → length source ≡ 10 * n → length target ≡ 10 * n → PartRoom k part (take m′ (drop (14 * k) moved)) source target
-    part-room e f =
+    pub part-room : {source : List ℤ} → length source ≡ perParticle * n → PartRoom k these source (take i (drop (perParticle * k) target))
+    part-room e =
         let count = sym (count-part records k n m size inside) in
         record {
           index = omega (arith, count-in records, ready .limits .count);
-          bytes = long ∙ ap (λ i. 14 * i) count;
-          source-numbers = e ∙ ap (λ i. 10 * i) count;
-          target-numbers = f ∙ ap (λ i. 10 * i) count;
+          source-numbers = e ∙ ap (λ j. perParticle * j) count;
+          target-numbers = long ∙ ap (λ j. perParticle * j) count;
         }
 
-    module _ {ys : List ℕ} {r : Gathered} (p : MovedFrom k nx ny part ux uy ys r) (kept : length ys ≡ length (take m′ (drop (14 * k) moved))) where
-      abbrev after : List ℕ
-      after = take (14 * k) moved ++ (ys ++ drop m′ (drop (14 * k) moved))
+    module _ {ys : List ℤ} {r : Gathered} (p : MovedFrom w k nx ny these ux uy ys r) (kept : length ys ≡ length (take i (drop (perParticle * k) target))) where
+      abbrev after : List ℤ
+      after = take (perParticle * k) target ++ (ys ++ drop i (drop (perParticle * k) target))
 
-      before : length (take (14 * k) moved) ≡ 14 * k
-      before = length-take-le (14 * k) moved (omega (arith, w .bytes))
+      before-it : length (take (perParticle * k) target) ≡ perParticle * k
+      before-it = length-take-le (perParticle * k) target (omega (arith, before .room))
 
-      as-long : length after ≡ length moved
+      as-long : length after ≡ length target
       as-long =
-          length-append (take (14 * k) moved) (ys ++ drop m′ (drop (14 * k) moved))
-          ∙ ap₂ _+_ before (length-append ys (drop m′ (drop (14 * k) moved)) ∙ ap₂ _+_ (kept ∙ long) (length-drop m′ (drop (14 * k) moved) ∙ ap (λ l. l - m′) (length-drop (14 * k) moved)))
-          ∙ omega (arith, w .bytes)
+          length-append (take (perParticle * k) target) (ys ++ drop i (drop (perParticle * k) target))
+          ∙ ap₂ _+_ before-it (length-append ys (drop i (drop (perParticle * k) target)) ∙ ap₂ _+_ (kept ∙ long) (length-drop i (drop (perParticle * k) target) ∙ ap (λ l. l - i) (length-drop (perParticle * k) target)))
+          ∙ omega (arith, before .room)
 
       -- the answer of the part and of those behind it
-      from-here : answerFrom 0 nx ny ux uy (particlesIn records) ≡ follow (toldGathered r) (answerFrom (k + n) nx ny ux uy (drop (k + n) (particlesIn records)))
+      from-here : answerFrom w 0 nx ny ux uy (particlesIn records) ≡ follow (toldGathered r) (answerFrom w (k + n) nx ny ux uy (drop (k + n) (particlesIn records)))
       from-here =
-          w .answer
-          ∙ ap (answerFrom k nx ny ux uy) (sym (take-append-drop n (drop k (particlesIn records))))
-          ∙ checks-append nx ny (gathered nx ny ux uy) k these (drop n (drop k (particlesIn records))) (result tt)
-          ∙ checks-follow nx ny (gathered nx ny ux uy) k these (answerFrom (k + length these) nx ny ux uy (drop n (drop k (particlesIn records))))
-          ∙ ap₂ follow (ap (answerFrom k nx ny ux uy) (sym these-are) ∙ sym (p .answer)) (ap₂ (λ i l. answerFrom (k + i) nx ny ux uy l) many (drop-drop n k (particlesIn records)))
+          before .answer
+          ∙ ap (answerFrom w k nx ny ux uy) (sym (take-append-drop n rest))
+          ∙ checks-append nx ny (gathered w nx ny ux uy) k (take n rest) (drop n rest) (result tt)
+          ∙ checks-follow nx ny (gathered w nx ny ux uy) k (take n rest) (answerFrom w (k + length (take n rest)) nx ny ux uy (drop n rest))
+          ∙ ap₂ follow (ap (answerFrom w k nx ny ux uy) (sym these-are) ∙ sym (p .answer)) (ap₂ (λ j l. answerFrom w (k + j) nx ny ux uy l) many (drop-drop n k (particlesIn records)))
         where
-          many : length these ≡ n
+          rest : List Particle
+          rest = drop k (particlesIn records)
+
+          many : length (take n (drop k (particlesIn records))) ≡ n
           many = length-take-le n (drop k (particlesIn records)) (omega (arith, length-drop k (particlesIn records), count-in records))
 
-      pub stop : {f : Refusal} → r ≡ Refused f → MovedFrom 0 nx ny records ux uy after (Refused f)
+      pub stop : {f : Refusal} → r ≡ Refused f → MovedFrom w 0 nx ny records ux uy after (Refused f)
       stop h =
           record {
-            answer = sym (from-here ∙ ap (λ a. follow (toldGathered a) (answerFrom (k + n) nx ny ux uy (drop (k + n) (particlesIn records)))) h);
-            records-are = λ no. not-result no;
+            answer = sym (from-here ∙ ap (λ a. follow (toldGathered a) (answerFrom w (k + n) nx ny ux uy (drop (k + n) (particlesIn records)))) h);
+            target-is = λ no. not-result no;
           }
 
-      pub turn : toldGathered r ≡ result tt → Walk nx ny records ux uy after (k + n)
+      pub turn : toldGathered r ≡ result tt → Walk w nx ny records ux uy after (k + n)
       turn h =
           record {
             within = inside;
-            bytes = as-long ∙ w .bytes;
+            room = as-long ∙ before .room;
             taken =
-                ap (take (14 * (k + n))) (sym (append-assoc (take (14 * k) moved) ys (drop m′ (drop (14 * k) moved))))
-                ∙ take-at (take (14 * k) moved ++ ys) (drop m′ (drop (14 * k) moved)) (14 * (k + n)) (length-append (take (14 * k) moved) ys ∙ ap₂ _+_ before (kept ∙ long) ∙ omega arith)
-                ∙ ap₂ _++_ (w .taken) (p .records-are h ∙ ap (λ ps. recordsOf (map (gathered nx ny ux uy) ps)) these-are)
-                ∙ sym (records-append (map (gathered nx ny ux uy) (take k (particlesIn records))) (map (gathered nx ny ux uy) these))
-                ∙ ap recordsOf (sym (map-append (gathered nx ny ux uy) (take k (particlesIn records)) these))
-                ∙ ap (λ ps. recordsOf (map (gathered nx ny ux uy) ps)) (sym (take-add k n (particlesIn records)));
-            answer = from-here ∙ ap (λ a. follow a (answerFrom (k + n) nx ny ux uy (drop (k + n) (particlesIn records)))) h;
+                ap (take (perParticle * (k + n))) (sym (append-assoc (take (perParticle * k) target) ys (drop i (drop (perParticle * k) target))))
+                ∙ take-at (take (perParticle * k) target ++ ys) (drop i (drop (perParticle * k) target)) (perParticle * (k + n)) (length-append (take (perParticle * k) target) ys ∙ ap₂ _+_ before-it (kept ∙ long) ∙ omega arith)
+                ∙ ap₂ _++_ (before .taken) (p .target-is h ∙ ap (λ ps. unpacked (map (gathered w nx ny ux uy) ps)) these-are)
+                ∙ sym (unpacked-append (map (gathered w nx ny ux uy) (take k (particlesIn records))) (map (gathered w nx ny ux uy) (take n (drop k (particlesIn records)))))
+                ∙ ap unpacked (sym (map-append (gathered w nx ny ux uy) (take k (particlesIn records)) (take n (drop k (particlesIn records)))))
+                ∙ ap (λ ps. unpacked (map (gathered w nx ny ux uy) ps)) (sym (take-add k n (particlesIn records)));
+            answer = from-here ∙ ap (λ a. follow a (answerFrom w (k + n) nx ny ux uy (drop (k + n) (particlesIn records)))) h;
           }
 
       -- no record is behind the part
-      pub last : recordCount records ≤ k + n → 14 * recordCount records ≡ length records → MovedFrom 0 nx ny records ux uy after r
+      pub last : recordCount records ≤ k + n → MovedFrom w 0 nx ny records ux uy after r
       unfolding moveChecks
-      last h whole =
+      last h =
           record {
             answer =
-                sym (from-here ∙ ap (λ ps. follow (toldGathered r) (answerFrom (k + n) nx ny ux uy ps)) (ap (λ i. drop i (particlesIn records)) all ∙ drop-length (particlesIn records)) ∙ only (toldGathered r));
-            records-are = λ done.
+                sym (from-here ∙ ap (λ ps. follow (toldGathered r) (answerFrom w (k + n) nx ny ux uy ps)) (ap (λ j. drop j (particlesIn records)) all ∙ drop-length (particlesIn records)) ∙ only (toldGathered r));
+            target-is = λ done.
                 let v = turn done in
-                sym (take-all (14 * (k + n)) after (omega (arith, v .bytes)))
+                sym (take-all (perParticle * (k + n)) after (omega (arith, v .room)))
                 ∙ v .taken
-                ∙ ap (λ ps. recordsOf (map (gathered nx ny ux uy) ps)) (take-all (k + n) (particlesIn records) (omega (arith, count-in records)));
+                ∙ ap (λ ps. unpacked (map (gathered w nx ny ux uy) ps)) (take-all (k + n) (particlesIn records) (omega (arith, count-in records)));
           }
         where
           all : k + n ≡ length (particlesIn records)
@@ -199,4 +163,4 @@ module _ {nx ny : ℕ} {records : List ℕ} {weights : List (List ℕ)} {ux uy :
 
           only : (a : Answer (Unit {0})) → follow a (result tt) ≡ a
           only (result u) = refl
-          only (refused i j) = refl
+          only (refused j k) = refl

@@ -14,11 +14,12 @@ use mir.Syntax.{w64}
 use mir.Val.{SFits, toZ, ofZ}
 use mir.Facts.{toZ-ofZ}
 use borrow.Author.Tests.{not-false}
-use Rattle.refusal.specs.Refused.{refuseIf, andThen}
+use Rattle.refusal.specs.Refused.{refuseIf, andThen, done, forEach}
 use Rattle.refusal.proofs.Answers.{passed}
 use Rattle.arith.specs.Sums.{Each}
-use Rattle.update.specs.Checks.{bothWithin, done, forEach}
-use Rattle.update.proofs.Walk.{within-both, each-turn, pass-each}
+use Rattle.entry.specs.Checks.{bothWithin}
+use Rattle.entry.proofs.Entry.{within-both}
+use Rattle.update.proofs.Walk.{each-turn, pass-each}
 use Rattle.gather_core.specs.Gather.{NodeVelocities}
 use Rattle.transfer.specs.Transfer.{velocityCheck, velocityChecks}
 

@@ -16,7 +16,7 @@ fn gathered(answer: Moved) {
 }
 
 pub fn show(nx: usize, ny: usize, records: &mut [u8], ux: &[i64], uy: &[i64]) {
-    gathered(transfer::gather(nx, ny, records, ux, uy));
+    gathered(gather::gather(nx, ny, records, ux, uy));
     lines::bytes(records);
     lines::end();
 }

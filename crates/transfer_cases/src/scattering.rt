@@ -51,7 +51,7 @@ pub fn show(
     px: &mut [i64],
     py: &mut [i64],
 ) {
-    scattered(transfer::scatter(nx, ny, records, mass, px, py));
+    scattered(scatter::scatter(nx, ny, records, mass, px, py));
     lines::masses(mass);
     lines::end();
     axes(px, py);

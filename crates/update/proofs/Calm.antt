@@ -7,20 +7,22 @@ use lib.Dec.{leb}
 use lib.IntN.{ℤ, pos, natAbs}
 use borrow.Author.Tests.{leb-true}
 use Rattle.arith.specs.Size.{Bound, bound-sum}
-use Rattle.arith.specs.Rounding.{nearest, halvesAway, nearest-bound}
+use Rattle.arith.specs.Rounding.{rounded, rounded-bound}
 use Rattle.apic.specs.Step.{nodeVelocity}
-use Rattle.update.specs.Checks.{bothWithin, done}
+use Rattle.refusal.specs.Refused.{done}
+use Rattle.entry.specs.Checks.{bothWithin}
 use Rattle.update.specs.Update.{velocityOf, checkNode}
 use Rattle.update.specs.Internal.{calmMomentum, isCalm}
-use Rattle.update.proofs.Walk.{and-true, within-both, zero-size, limits-pass}
+use Rattle.entry.proofs.Entry.{and-true, within-both}
+use Rattle.update.proofs.Walk.{zero-size, limits-pass}
 
 calm-velocity : (g : ℤ) (M : ℕ) (p : ℤ) → natAbs g ≤ 4096 → natAbs p ≤ M * calmMomentum → natAbs (velocityOf g M p) ≤ 131072
 unfolding nodeVelocity
 calm-velocity g zero p h k = omega arith
-calm-velocity g (suc M) p h k = bound-sum rounded (record { size = h }) .size
+calm-velocity g (suc M) p h k = bound-sum calm (record { size = h }) .size
   where
-    rounded : Bound (nearest halvesAway p (4 * suc M)) 126976
-    rounded = nearest-bound halvesAway p (4 * suc M) 126976 (omega arith) (record { size = omega arith })
+    calm : Bound (rounded p (4 * suc M)) 126976
+    calm = rounded-bound p (4 * suc M) 126976 (omega arith) (record { size = omega arith })
 
 calm-massless : (M : ℕ) (p : ℤ) → natAbs p ≤ M * calmMomentum → M ≡ 0 → p ≡ pos 0
 calm-massless M p h e = zero-size p (omega arith)

@@ -4,14 +4,14 @@ use mathlib.Core.Path.{_≡_, refl}
 use mathlib.Core.List.{[], _∷_}
 use lib.ListN.{replicate, set}
 use lib.IntN.{pos, negsuc}
-use Rattle.refusal.specs.Refused.{refused}
+use Rattle.refusal.specs.Refused.{refused, done}
 use Rattle.arith.specs.Rounding.{nearest}
 use Rattle.apic.specs.Step.{nodeVelocity}
-use Rattle.update.specs.Checks.{done}
+use Rattle.entry.specs.Entry.{beginAnswer}
 use Rattle.update.specs.Update.{checkNode, checkNodes, velocities, updateAnswer}
 
 halves : (updateAnswer 4 4 (pos 0) (pos 0) (replicate 16 1) (replicate 16 (pos 2)) (replicate 16 (negsuc 1)) ≡ done) × ((velocities 16 (pos 0) (replicate 16 1) (replicate 16 (pos 2)) ≡ replicate 16 (pos 1)) × (velocities 16 (pos 0) (replicate 16 1) (replicate 16 (negsuc 1)) ≡ replicate 16 (negsuc 0)))
-unfolding nearest nodeVelocity checkNode checkNodes velocities updateAnswer
+unfolding nearest nodeVelocity checkNode checkNodes velocities beginAnswer updateAnswer
 halves = (refl, (refl, refl))
 
 without-mass : velocities 2 (pos 7) (1 ∷ 0 ∷ []) (pos 0 ∷ pos 0 ∷ []) ≡ pos 7 ∷ pos 0 ∷ []
@@ -19,5 +19,5 @@ unfolding nearest nodeVelocity velocities
 without-mass = refl
 
 too-heavy : updateAnswer 4 4 (pos 0) (pos 0) (set (replicate 16 1) 5 8796093022209) (replicate 16 (pos 2)) (replicate 16 (negsuc 1)) ≡ refused 11 5
-unfolding nearest nodeVelocity checkNode checkNodes updateAnswer
+unfolding nearest nodeVelocity checkNode checkNodes beginAnswer updateAnswer
 too-heavy = refl

@@ -1,4 +1,3 @@
-pub mod Tests
 pub mod Rounded
 pub mod Walk
 pub mod Calm

@@ -14,18 +14,18 @@ use borrow.Author.Tests.{le-ltb}
 use Rattle.arith.specs.Order.{linear, reading, nothing}
 use Rattle.arith.specs.Size.{natAbs-neg, sizes, fits}
 use Rattle.arith.specs.Machine.{same-fits, same-read}
-use Rattle.arith.specs.Rounding.{nearest, halvesAway, nearest-half, nearest-half-neg}
+use Rattle.arith.specs.Rounding.{rounded, nearest-half, nearest-half-neg}
 
 -- the divisor as twice a half
 twice : (m : ℕ) → 4 * m ≡ 2 * (2 * m)
 twice m = omega arith
 
 module _ (m : ℕ) (positive : 0 < m) where
-  pub rounds : (z : ℤ) → ltZ z (pos 0) ≡ false → nearest halvesAway z (4 * m) ≡ pos ((natAbs z + 2 * m) / (4 * m))
+  pub rounds : (z : ℤ) → ltZ z (pos 0) ≡ false → rounded z (4 * m) ≡ pos ((natAbs z + 2 * m) / (4 * m))
   rounds (pos a) e = rw (twice m) (nearest-half a (2 * m) (omega arith))
   rounds (negsuc a) e = absurd (true≢false e)
 
-  pub rounds-negative : (a : ℕ) → nearest halvesAway (negsuc a) (4 * m) ≡ negℤ (pos ((suc a + 2 * m) / (4 * m)))
+  pub rounds-negative : (a : ℕ) → rounded (negsuc a) (4 * m) ≡ negℤ (pos ((suc a + 2 * m) / (4 * m)))
   rounds-negative a = rw (twice m) (nearest-half-neg (suc a) (2 * m) (omega arith))
 
 nonneg : (z : ℤ) → ltZ z (pos 0) ≡ false → T (nonNeg z)

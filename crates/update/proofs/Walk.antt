@@ -17,9 +17,10 @@ use lib.Dec.{leb, ltb, eqb}
 use lib.ListN.{getD}
 use lib.IntN.{ℤ, pos, negsuc, natAbs}
 use borrow.Author.Tests.{ltb-false, leb-true, eqb-true, le-ltb, le-leb, ne-eqb, eq-eqb, not-false}
-use Rattle.refusal.specs.Refused.{Answer, refused, refuseIf, andThen}
+use Rattle.refusal.specs.Refused.{Answer, refused, refuseIf, andThen, done, forEach}
 use Rattle.refusal.proofs.Answers.{passed, went-on}
-use Rattle.update.specs.Checks.{bothWithin, done, forEach}
+use Rattle.entry.specs.Checks.{bothWithin}
+use Rattle.entry.proofs.Entry.{and-true, within-both, both-within}
 use Rattle.update.specs.Update.{velocityOf, breaksMass, checkNode, checkNodeAt, checkNodes, NodeLimits}
 
 -- ---- tests as facts
@@ -27,18 +28,6 @@ use Rattle.update.specs.Update.{velocityOf, breaksMass, checkNode, check
 or-false : (a b : Bool) → a || b ≡ false → (a ≡ false) × (b ≡ false)
 or-false false b e = (refl, e)
 or-false true b e = absurd (true≢false e)
-
-pub and-true : (a b : Bool) → a && b ≡ true → (a ≡ true) × (b ≡ true)
-and-true true b e = (refl, e)
-and-true false b e = absurd (true≢false (sym e))
-
-pub within-both : (n : ℕ) (x y : ℤ) → bothWithin n x y ≡ true → (natAbs x ≤ n) × (natAbs y ≤ n)
-within-both n x y e =
-    let b = and-true (leb (natAbs x) n) (leb (natAbs y) n) e in
-    (leb-true (natAbs x) n (b .0), leb-true (natAbs y) n (b .1))
-
-pub both-within : (n : ℕ) (x y : ℤ) → natAbs x ≤ n → natAbs y ≤ n → bothWithin n x y ≡ true
-both-within n x y h k = ap₂ _&&_ (le-leb (natAbs x) n h) (le-leb (natAbs y) n k)
 
 pub zero-size : (z : ℤ) → natAbs z ≡ 0 → z ≡ pos 0
 zero-size (pos n) e = ap pos e

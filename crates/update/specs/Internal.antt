@@ -3,7 +3,7 @@ use mathlib.Core.Bool.{Bool, _&&_}
 use Prim.Native.Nat.{ℕ, _*_, _^_}
 use lib.Dec.{leb}
 use lib.IntN.{ℤ}
-use Rattle.update.specs.Checks.{bothWithin}
+use Rattle.entry.specs.Checks.{bothWithin}
 
 -- 4·(131,072 − 4096): a momentum of at most so much per unit of mass
 abbrev pub calmMomentum : ℕ

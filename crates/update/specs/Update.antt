@@ -8,17 +8,19 @@ use lib.Dec.{ltb, eqb}
 use lib.ListN.{length, getD}
 use lib.IntN.{ℤ, pos, natAbs}
 use Rattle.arith.specs.Sums.{upTo}
-use Rattle.arith.specs.Rounding.{nearest, halvesAway}
-use Rattle.refusal.specs.Refused.{Answer, refusedBy, refuseIf, keptUnless}
+use Rattle.arith.specs.Rounding.{rounded}
+use Rattle.refusal.specs.Refused.{Answer, refusedBy, refuseIf, andThen, done, forEach, Leaves}
+use Rattle.spline.specs.Spline.{D}
 use Rattle.apic.specs.Step.{nodeVelocity}
-use Rattle.particles.specs.Set.{validSize}
 use Rattle.update.specs.declared.Updated.{Updated}
 use Rattle.update.specs.declared.Updated.the-variants.{Done, Refused}
-use Rattle.update.specs.Checks.{bothWithin, checkLengths, checkGravity, done, forEach}
+use Rattle.entry.specs.declared.Buffers.the-variants.{Three}
+use Rattle.entry.specs.Checks.{bothWithin}
+use Rattle.entry.specs.Entry.{beginAnswer}
 
--- a node's velocity on one axis: momentum/(4M) rounded to nearest, halves away from zero, plus gravity; 0 where M is 0
+-- a node's velocity on one axis, with the spline's D: momentum/(4M), rounded, plus gravity; 0 where M is 0
 abbrev pub velocityOf : ℤ → ℕ → ℤ → ℤ
-velocityOf g M momentum = nodeVelocity (nearest halvesAway) g M momentum
+velocityOf g M momentum = nodeVelocity rounded D g M momentum
 
 -- ---- the limits of a node
 
@@ -72,12 +74,19 @@ toldUpdate (Refused e) = refusedBy e
 -- 2; 1 for the grid buffers; 10; then for each node 11, 12
 unfoldable pub updateAnswer : ℕ → ℕ → ℤ → ℤ → List ℕ → List ℤ → List ℤ → Answer Unit
 updateAnswer nx ny gx gy mass px py =
-    refuseIf (not (validSize nx ny)) 2 0
-    (checkLengths (nx * ny) (length mass) (length px) (length py)
-    (checkGravity gx gy (checkNodes (nx * ny) gx gy mass px py)))
+    andThen (beginAnswer (record { nx = nx; ny = ny; gx = gx; gy = gy }) (Three (length mass) (length px) (length py)) 0 0)
+    (λ _. checkNodes (nx * ny) gx gy mass px py)
+
+-- the grids of both axes
+pub record BothAxes : Type 0 where
+  pub x : List ℤ
+  pub y : List ℤ
+
+abbrev pub bothAxes : List ℤ → List ℤ → BothAxes
+bothAxes x y = record { x = x; y = y }
 
 -- the answer of a call, and both grids as it leaves them: velocity takes the momentum's place; a refused call leaves it unchanged
-pub record UpdateIs (nx ny : ℕ) (gx gy : ℤ) (mass : List ℕ) (px py : List ℤ) (told : Answer Unit) (px-after py-after : List ℤ) : Type 0 where
-  pub answer : told ≡ updateAnswer nx ny gx gy mass px py
-  pub px-is : px-after ≡ keptUnless (updateAnswer nx ny gx gy mass px py) (velocities (nx * ny) gx mass px) px
-  pub py-is : py-after ≡ keptUnless (updateAnswer nx ny gx gy mass px py) (velocities (nx * ny) gy mass py) py
+abbrev pub UpdateIs : ℕ → ℕ → ℤ → ℤ → List ℕ → List ℤ → List ℤ → Answer Unit → List ℤ → List ℤ → Type 0
+UpdateIs nx ny gx gy mass px py told px′ py′ =
+    Leaves (updateAnswer nx ny gx gy mass px py)
+    (λ _. bothAxes (velocities (nx * ny) gx mass px) (velocities (nx * ny) gy mass py)) (bothAxes px py) told (bothAxes px′ py′)

@@ -1,5 +1,4 @@
 // The update of a grid's nodes: velocity takes the momentum's place, after gravity.
-pub mod checks;
 mod node;
 
 ghost use mathlib.Core.Path.{_≡_};
@@ -7,7 +6,10 @@ ghost use Prim.Native.Nat.{_≤_};
 ghost use lib.ListN.{length};
 ghost use lib.IntN.{natAbs};
 ghost use Rattle.update.specs.Update.{toldUpdate, checkNodes, velocities, GridLimits, UpdateIs};
+use entry::Begun;
+use entry::Buffers;
 use refusal::Refusal;
+use settings::Settings;
 
 pub enum Updated {
     Done,
@@ -63,18 +65,14 @@ pub fn update(
 ) -> Updated
     ensures { λ r. ⌜ UpdateIs nx ny gx gy (now (mass .entry)) (now (px .entry)) (now (py .entry)) (toldUpdate r) (now (px .exit)) (now (py .exit)) ⌝ }
 {
-    if !particles::size_is_valid(nx, ny) {
-        return Updated::Refused(Refusal::GridSize);
+    let settings = Settings { nx, ny, gx, gy };
+    let buffers = Buffers::Three(mass.len(), px.len(), py.len());
+    match entry::begin(settings, buffers, 0, 0) {
+        Begun::Refused(refusal) => return Updated::Refused(refusal),
+        Begun::Done => {}
     }
     let count = nx * ny;
-    if !checks::lengths_are(count, mass.len(), px.len(), py.len()) {
-        return Updated::Refused(Refusal::Length);
-    }
-    if !checks::gravity_in_range(gx, gy) {
-        return Updated::Refused(Refusal::Gravity);
-    }
-    let checked = check_nodes(count, gx, gy, mass, px, py);
-    match checked {
+    match check_nodes(count, gx, gy, mass, px, py) {
         Updated::Refused(refusal) => Updated::Refused(refusal),
         Updated::Done => {
             update_all(count, gx, gy, mass, px, py);

@@ -2,11 +2,11 @@
 ghost use mathlib.Core.Path.{_≡_};
 ghost use Prim.Native.Nat.{_+_, _*_, _/_, _<_, _≤_, _^_};
 ghost use lib.IntN.{natAbs};
-ghost use Rattle.arith.specs.Rounding.{nearest, halvesAway};
+ghost use Rattle.arith.specs.Rounding.{rounded};
 ghost use Rattle.update.specs.Update.{velocityOf, breaksMass, checkNode, toldUpdate};
 ghost use Rattle.update.specs.Internal.{isCalm};
 use crate::Updated;
-use crate::checks;
+use entry::checks;
 use refusal::Refusal;
 
 const MOST_MASS: u64 = 0x800_0000_0000;
@@ -27,7 +27,7 @@ fn rounded_size(size: u64, mass: u64) -> u64
 // momentum/(4·mass) to nearest, halves away from zero. `velocity` calls it.
 fn rounded(momentum: i64, mass: u64) -> i64
     requires { ⌜ (0 < mass) × (mass ≤ 2 ^ 43) ⌝ }
-    ensures { λ r. ⌜ (r ≡ nearest halvesAway momentum (4 * mass)) × (natAbs r ≤ 2 ^ 62) ⌝ }
+    ensures { λ r. ⌜ (r ≡ rounded momentum (4 * mass)) × (natAbs r ≤ 2 ^ 62) ⌝ }
 {
     if momentum < 0 {
         -(rounded_size((-1 - momentum) as u64 + 1, mass) as i64)

@@ -4,9 +4,9 @@
 --     too-low, too-high, between-both  what a test in the code says of it
 --     field                            the integer in a field of 16 bits
 -- Assumes nothing.
-use mathlib.Core.Path.{_≡_, refl, sym, ap, subst, _∙_}
+use mathlib.Core.Path.{_≡_, refl, sym, ap, ap₂, subst, _∙_}
 use mathlib.Core.Bool.{Bool, true, false, cond, _&&_}
-use Prim.Native.Nat.{ℕ, suc, _^_, _≤_, _<_}
+use Prim.Native.Nat.{ℕ, zero, suc, _^_, _≤_, _<_, zero-le}
 use native.Mathlib.Omega.{arith}
 use borrow.Author.Tests.{ltb-true, ltb-false, lt-leb, le-leb}
 use lib.Dec.{T, ltb, leb}
@@ -16,7 +16,7 @@ use mir.Syntax.{w16, w64}
 use mir.Val.{SFits, toZ, ofZ, hbits}
 use mir.Facts.{toZ-ofZ}
 use Rattle.arith.specs.Machine.{read-result}
-use Rattle.particle.specs.Record.{between}
+use Rattle.limits.specs.Limits.{within}
 use Rattle.wide.specs.Internal.{capped, clamped}
 
 module _ (most n : ℕ) where
@@ -37,10 +37,11 @@ module _ (most n : ℕ) where
   pub kept : n ≤ most → capped most n ≡ n
   kept h = cases (λ m. m ≡ n) (λ a. absurd (omega arith)) refl
 
--- within ±(k + 1)
-pub same-within : (k : ℕ) → suc k < 32767 → (z : ℤ) → between (negsuc k) (pos (suc k)) (clamped z) ≡ between (negsuc k) (pos (suc k)) z
-same-within k h (pos n) = same-most 32767 n h
-same-within k h (negsuc n) = ap (λ b. b && true) (same-most 32767 n (omega arith))
+pub same-within : (k : ℕ) → k < 32767 → (z : ℤ) → within k (clamped z) ≡ within k z
+same-within zero h (pos n) = ap₂ _&&_ (same-least 32767 n zero-le) (same-most 32767 n h)
+same-within zero h (negsuc n) = refl
+same-within (suc m) h (pos n) = same-most 32767 n h
+same-within (suc m) h (negsuc n) = ap (λ b. b && true) (same-most 32767 n (omega arith))
 
 -- `mag` is n of `pos n` and of `negsuc n`
 module _ (z : ℤ) where

@@ -9,15 +9,16 @@ use lib.Dec.{lit<, lit≤, ltb, eqb}
 use lib.IntN.{ℤ}
 use lib.ListN.{length}
 use Rattle.refusal.specs.Refused.{Answer, result, refused, refuseIf, keptUnless}
-use Rattle.refusal.proofs.Answers.{passed}
+use Rattle.refusal.proofs.Answers.{length-passed}
+use Rattle.limits.specs.Limits.{leastMass, mostMass, mostVelocity, mostAffine, mostRecords, mostGravity, mostSteps, validMass, validPosition, validVelocity, validAffine, validGravity}
 use Rattle.particle.specs.declared.Particle.{Particle}
 use Rattle.particle.specs.Layout.{recordLength}
-use Rattle.particle.specs.Record.{validMass, validPosition, validVelocity, validAffine, recordOf, writeParticle, writeAnswer, written}
+use Rattle.particle.specs.Record.{recordOf, writeParticle, writeAnswer, written}
 use Rattle.particle.proofs.Valid.{write-valid}
 use Rattle.particles.specs.Set.{validSize}
 use Rattle.bath_file.specs.declared.Header.{Header}
 use Rattle.bath_file.specs.Layout.{headerLength}
-use Rattle.bath_file.specs.File.{validGravity, checkedHeader, headerOf}
+use Rattle.bath_file.specs.File.{checkedHeader, headerOf}
 use Rattle.bath_file.specs.File as file
 use Rattle.bath_file.proofs.Checks.{valid}
 use Rattle.wide.specs.Internal.{capped, clamped, SameRecord, SameHeader}
@@ -51,16 +52,16 @@ narrowed p =
 
 -- each field passes the same test
 mass : (m : ℕ) → validMass (capped 65535 m) ≡ validMass m
-mass m = ap₂ _&&_ (same-least 65535 m {k = 1} (lit≤ tt)) (same-most 65535 m {k = 1023} (lit< tt))
+mass m = ap₂ _&&_ (same-least 65535 m {k = leastMass} (lit≤ tt)) (same-most 65535 m {k = mostMass} (lit< tt))
 
 position : (a : ℕ) → validPosition (capped 65535 a) ≡ validPosition a
 position a = same-most 65535 a (lit< tt)
 
 velocity : (v : ℤ) → validVelocity (clamped v) ≡ validVelocity v
-velocity = same-within 62 (lit< tt)
+velocity = same-within mostVelocity (lit< tt)
 
 affine : (b : ℤ) → validAffine (clamped b) ≡ validAffine b
-affine = same-within 2046 (lit< tt)
+affine = same-within mostAffine (lit< tt)
 
 module _ (p : Particle) where
   same-judged : writeParticle (narrowed p) ≡ writeParticle p
@@ -97,7 +98,7 @@ module _ (p : Particle) where
         answer = same-answer;
         buffer = λ bytes.
             same-buffer recordOf bytes (same-answer bytes)
-            (λ e. same-particle (passed (not (eqb (length bytes) recordLength)) 1 0 (writeParticle p) e .1));
+            (λ e. same-particle (length-passed (length bytes) recordLength (writeParticle p) e .1));
       }
     where
       same-answer : (bytes : List ℕ) → writeAnswer (narrowed p) bytes ≡ writeAnswer p bytes
@@ -117,7 +118,7 @@ narrowedHeader h =
     }
 
 gravity : (g : ℤ) → validGravity (clamped g) ≡ validGravity g
-gravity = same-within 4095 (lit< tt)
+gravity = same-within mostGravity (lit< tt)
 
 module _ (h : Header) where
   same-checked : checkedHeader {A = Unit} (narrowedHeader h) (result tt) ≡ checkedHeader h (result tt)
@@ -126,8 +127,8 @@ module _ (h : Header) where
       λ i.
       refuseIf (not (validSize (h .nx) (h .ny))) 2 0
       (refuseIf (not (gravity (h .gx) i && gravity (h .gy) i)) 10 0
-      (refuseIf (ltb 4096 (h .count)) 3 0
-      (refuseIf (ltb 10000 (h .steps)) 17 0
+      (refuseIf (ltb mostRecords (h .count)) 3 0
+      (refuseIf (ltb mostSteps (h .steps)) 17 0
       (result tt))))
 
   same-values : checkedHeader {A = Unit} h (result tt) ≡ result tt → narrowedHeader h ≡ h
@@ -150,7 +151,7 @@ module _ (h : Header) where
         answer = same-answer;
         buffer = λ bytes.
             same-buffer headerOf bytes (same-answer bytes)
-            (λ e. same-values (passed (not (eqb (length bytes) headerLength)) 1 0 (checkedHeader h (result tt)) e .1));
+            (λ e. same-values (length-passed (length bytes) headerLength (checkedHeader h (result tt)) e .1));
       }
     where
       same-answer : (bytes : List ℕ) → file.writeAnswer (narrowedHeader h) bytes ≡ file.writeAnswer h bytes

@@ -1,13 +1,13 @@
 -- The numbers that a caller in another language hands in and gets.
 --     particleWith, headerWith        a particle and a header of these numbers, of any size
---     weightValues, sums, settings    the values of results, as lists; a particle's are its ten numbers (unpacked's specs)
+--     weightValues, sums, settings    the values of results, as lists; a particle's are its numbers (particle's specs)
 -- Assumes nothing.
 use mathlib.Core.List.{List, [], _∷_}
 use Prim.Native.Nat.{ℕ}
 use lib.IntN.{ℤ, pos}
 use Rattle.spline.specs.Answers.{Three}
 use Rattle.particle.specs.declared.Particle.{Particle}
-use Rattle.particles.specs.declared.Totals.{Totals}
+use Rattle.totals.specs.declared.Totals.{Totals}
 use Rattle.bath_file.specs.declared.Header.{Header}
 
 abbrev pub particleWith : ℕ → ℕ → ℕ → ℕ → ℤ → ℤ → ℤ → ℤ → ℤ → ℤ → Particle

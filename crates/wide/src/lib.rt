@@ -5,13 +5,19 @@ mod narrow;
 
 use bath_file::Header;
 use particle::Particle;
-use particles::Totals;
 use spline::AxisWeights;
+use totals::Totals;
 ghost use mathlib.Core.Path.{_≡_};
-ghost use Prim.Native.Nat.{_<_};
+ghost use Prim.Native.Nat.{_≤_};
+ghost use Rattle.limits.specs.Limits.{mostTotalMass};
 ghost use Rattle.spline.specs.Answers.{threeOf};
 ghost use Rattle.wide.specs.Values.{weightValues, sums, settings, particleWith, headerWith};
 ghost use Rattle.wide.specs.Internal.{SameRecord, SameHeader, Narrow};
+
+// How many values the totals and a header have.
+pub const SUMS: usize = 5;
+
+pub const SETTINGS: usize = 6;
 
 // The particle to write for these numbers: a write answers and leaves what it would for the numbers themselves.
 pub fn particle(
@@ -64,15 +70,15 @@ pub fn of_weights(w: AxisWeights) -> [i64; 3]
 }
 
 // The sums of an accepted set. `gondwize_totals` calls it.
-pub fn of_totals(t: Totals) -> [i64; 5]
-    requires { ⌜ t .mass < 131073 ⌝ }
+pub fn of_totals(t: Totals) -> [i64; SUMS]
+    requires { ⌜ t .mass ≤ mostTotalMass ⌝ }
     ensures { λ r. ⌜ r ≡ sums t ⌝ }
 {
     [t.mass as i64, t.px, t.py, t.spin, t.motion]
 }
 
 // The values of an accepted header. `gondwize_read_file` calls it.
-pub fn of_header(h: Header) -> [i64; 6]
+pub fn of_header(h: Header) -> [i64; SETTINGS]
     requires { ⌜ Narrow h ⌝ }
     ensures { λ r. ⌜ r ≡ settings h ⌝ }
 {

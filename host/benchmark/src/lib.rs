@@ -2,10 +2,12 @@
 //!
 //! | module | holds |
 //! | --- | --- |
-//! | [`library`] | the interface: the calls of `include/gondwize.h`, by the static library and by `optimised` |
+//! | [`library`] | the interface: the calls of `include/gondwize.h`, by the static library, by `optimised` and by other builds of the library |
 //! | [`bath`] | baths whose runs do not stop early |
 //! | [`measure`] | interleaved rounds, medians and spreads |
 //! | [`lines`] | what is timed |
+//! | [`tables`] | the tables of times |
+//! | [`stack`] | the stack that a call needs |
 
 #![warn(missing_docs)]
 
@@ -13,3 +15,5 @@ pub mod bath;
 pub mod library;
 pub mod lines;
 pub mod measure;
+pub mod stack;
+pub mod tables;

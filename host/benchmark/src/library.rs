@@ -1,27 +1,118 @@
-//! Two libraries with the same calls.
+//! Libraries with the same calls: the static library, Rust written for speed, and any two static
+//! libraries side by side.
+
+use std::ffi::{c_char, c_int, c_void, CStr, CString};
+use std::fs;
+use std::mem::transmute;
+use std::path::Path;
+use std::process::Command;
 
 pub use engine::library::{Library, PROVED};
 
 use engine::library::Functions;
 use optimised::c;
 
+/// The functions of a library, each made by a macro from its name here and its name in C.
+macro_rules! functions {
+    ($make:ident) => {
+        engine::library::Functions {
+            read_record: $make!(read_record gondwize_read_record),
+            write_record: $make!(write_record gondwize_write_record),
+            check_set: $make!(check_set gondwize_check_set),
+            totals: $make!(totals gondwize_totals),
+            weights: $make!(weights gondwize_weights),
+            scatter: $make!(scatter gondwize_scatter),
+            update: $make!(update gondwize_update),
+            gather: $make!(gather gondwize_gather),
+            step: $make!(step gondwize_step),
+            run: $make!(run gondwize_run),
+            read_file: $make!(read_file gondwize_read_file),
+            write_header: $make!(write_header gondwize_write_header),
+        }
+    };
+}
+
+pub(crate) use functions;
+
+macro_rules! optimised {
+    ($name:ident $function:ident) => {
+        c::$name
+    };
+}
+
 /// Rust written for speed.
 pub const OPTIMISED: Library = {
-    let functions = Functions {
-        read_record: c::read_record,
-        write_record: c::write_record,
-        check_set: c::check_set,
-        totals: c::totals,
-        weights: c::weights,
-        scatter: c::scatter,
-        update: c::update,
-        gather: c::gather,
-        step: c::step,
-        run: c::run,
-        read_file: c::read_file,
-        write_header: c::write_header,
-    };
     // SAFETY: each function makes slices of its pointers and lengths and hands them to one that takes
     // any slices and has no state.
-    unsafe { Library::new(functions) }
+    unsafe { Library::new(functions!(optimised)) }
 };
+
+unsafe extern "C" {
+    fn dlopen(path: *const c_char, mode: c_int) -> *mut c_void;
+    fn dlsym(library: *mut c_void, name: *const c_char) -> *mut c_void;
+    fn dlerror() -> *const c_char;
+}
+
+/// RTLD_NOW and RTLD_LOCAL on Linux.
+const NOW: c_int = 2;
+
+/// What the last of the functions above has to say.
+fn last_error() -> String {
+    // SAFETY: it answers a string or NULL, valid until the next call; one thread loads.
+    unsafe {
+        let said = dlerror();
+        if said.is_null() {
+            return "no error".to_owned();
+        }
+        CStr::from_ptr(said).to_string_lossy().into_owned()
+    }
+}
+
+/// Another build of the static library, beside the one that this program is linked with: made a shared
+/// one by gcc in `room`, and loaded.
+///
+/// # Errors
+///
+/// Where it cannot be made or loaded, or lacks a function.
+///
+/// # Safety
+///
+/// The file is a static library whose functions keep what `include/gondwize.h` says.
+pub unsafe fn load(archive: &Path, room: &Path, name: &str) -> Result<Library, String> {
+    let shared = room.join(format!("{name}.so"));
+    let mut gcc = Command::new("gcc");
+    gcc.args(["-shared", "-Wl,-Bsymbolic,-z,now,--whole-archive"]);
+    gcc.arg(archive)
+        .args(["-Wl,--no-whole-archive", "-o"])
+        .arg(&shared);
+    let made = gcc.output().map_err(|error| format!("gcc: {error}"))?;
+    if !made.status.success() {
+        return Err(String::from_utf8_lossy(&made.stderr).into_owned());
+    }
+    let path =
+        CString::new(shared.as_os_str().as_encoded_bytes()).map_err(|error| error.to_string())?;
+    // SAFETY: the path is a string; loading runs no code but gcc's own for starting.
+    let library = unsafe { dlopen(path.as_ptr(), NOW) };
+    if library.is_null() {
+        return Err(last_error());
+    }
+    fs::remove_file(&shared).map_err(|error| error.to_string())?;
+    macro_rules! loaded {
+        ($name:ident $function:ident) => {{
+            let name = concat!(stringify!($function), "\0");
+            // SAFETY: the name ends with zero; by what is asked of the caller the function is the
+            // header's.
+            unsafe {
+                let function = dlsym(library, name.as_ptr().cast());
+                if function.is_null() {
+                    return Err(last_error());
+                }
+                transmute::<*mut c_void, _>(function)
+            }
+        }};
+    }
+    #[allow(clippy::missing_transmute_annotations)]
+    let functions: Functions = functions!(loaded);
+    // SAFETY: by what is asked of the caller.
+    Ok(unsafe { Library::new(functions) })
+}

@@ -1,10 +1,12 @@
 //! Rust written for speed answers as the proved engine does, on the inputs of the comparison: the
-//! same number, values and buffers.
+//! same number, values and buffers. So does the engine where it is called in another way.
 
-use benchmark::library::{Library, OPTIMISED, PROVED};
+use benchmark::library::{load, Library, OPTIMISED, PROVED};
+use benchmark::stack::painted::Stack;
 use compare::calls::by_library;
 use compare::inputs::{self, Call};
 use compare::{count, seed, stream};
+use program::{root, Room};
 use reference::generator::Generator;
 use vectors::{Buffers, Operation};
 
@@ -19,15 +21,22 @@ fn call(library: &Library, operation: Operation, before: &Buffers) -> (u64, Vec<
     (answer, values, after)
 }
 
-/// Both libraries on many inputs.
-fn agree(name: &str, make: fn(&mut Generator) -> Call) {
-    for k in 0..count() {
+/// The proved engine and another library on many inputs.
+fn agree_with(other: &Library, name: &str, make: fn(&mut Generator) -> Call, count: u64) {
+    for k in 0..count {
         let (operation, before) = make(&mut stream(name, k));
         let proved = call(&PROVED, operation, &before);
-        let optimised = call(&OPTIMISED, operation, &before);
         let told = format!("{name}, COMPARE_SEED {}, input {k}", seed());
-        assert!(proved == optimised, "{told}: {operation:?}");
+        assert!(
+            proved == call(other, operation, &before),
+            "{told}: {operation:?}"
+        );
     }
+}
+
+/// Both libraries on many inputs.
+fn agree(name: &str, make: fn(&mut Generator) -> Call) {
+    agree_with(&OPTIMISED, name, make, count());
 }
 
 /// A test for each operation.
@@ -44,6 +53,40 @@ macro_rules! agreement {
 
 agreement! {
     read_record write_record check_set totals weights scatter update gather step run read_file write_header
+}
+
+/// The operations whose calls have arguments of every kind, and the most of them.
+const SOME: [(&str, fn(&mut Generator) -> Call); 4] = [
+    ("write_record", inputs::write_record),
+    ("update", inputs::update),
+    ("gather", inputs::gather),
+    ("run", inputs::run),
+];
+
+/// The static library loaded once more answers as the one that is linked.
+#[test]
+fn loaded() {
+    let (room, archive) = (
+        Room::new("loaded"),
+        root().join("target/staticlib/libgondwize.a"),
+    );
+    // SAFETY: it is a build of the library.
+    let library = unsafe { load(&archive, &room.path(""), "library") }.expect("a library");
+    for (name, make) in SOME {
+        agree_with(&library, name, make, 500);
+    }
+    // SAFETY: there is none.
+    assert!(unsafe { load(&room.path("none"), &room.path(""), "none") }.is_err());
+}
+
+/// So does the library on a stack that is looked at.
+#[test]
+fn on_a_painted_stack() {
+    let mut stack = Stack::new();
+    for (name, make) in SOME {
+        let ((), depth) = stack.depth(|library| agree_with(library, name, make, 500));
+        assert!(depth > 0);
+    }
 }
 
 /// Sets of every size about the parts and arrays of the engine.

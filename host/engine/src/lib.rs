@@ -30,8 +30,8 @@
 //! | step, run | [`step`], [`run`] |
 //! | read a file, write its header | [`read_file`], [`write_header`] |
 //!
-//! A call needs up to 700 kB of stack. Where a thread has less, the process ends, as with any function
-//! that overflows its stack.
+//! `include/gondwize.h` has a table of the stack that each call needs, by the number of its particles.
+//! Where a thread has less, the process ends, as with any function that overflows its stack.
 
 #![deny(unsafe_code)]
 #![warn(missing_docs)]

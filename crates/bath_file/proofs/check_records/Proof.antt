@@ -7,7 +7,7 @@ use Rattle.refusal.specs.Refused.{result}
 use Rattle.particles.specs.Set.{toldChecked}
 use Rattle.particles.proofs.Checks.{size-limits}
 use Rattle.bath_file.proofs.Checks.{Valid, valid}
-use Rattle.bath_file.proofs.Answers.{wrong-length, records-accepted, records-refused}
+use Rattle.bath_file.proofs.Answers.{wrong-records, records-accepted, records-refused}
 use Rattle.bath_file.proofs.check_records.Statement.{statement}
 use Rattle.bath_file.proofs.check_records.Tie as tie
 
@@ -21,7 +21,7 @@ add-if1 : tie.Need-add-if1
 add-if1 c = omega (arith, accepted (c .before) .count-to)
 
 returns : tie.Need-returns
-returns c = sym (wrong-length (c .before .before .args .h) (now (c .before .before .args .bytes)) (c .if1 .taken))
+returns c = sym (wrong-records (c .before .before .args .h) (now (c .before .before .args .bytes)) (c .if1 .taken))
 
 check-requires : tie.Need-check-requires
 check-requires c κs = (size-limits _ _ (accepted (c .before .before) .size), accepted (c .before .before) .count-to, omega arith)

@@ -3,8 +3,9 @@ use borrow.Author.Needs.{needs}
 use borrow.Author.Tests.{not-true, not-false, lt-ltb, le-ltb}
 use mathlib.Core.Path.{_≡_, sym, ap₂, _∙_}
 use mathlib.Core.Bool.{_&&_}
-use Rattle.particle.proofs.Signed.{back}
-use Rattle.bath_file.specs.File.{validGravity, checkedHeader}
+use Rattle.bits.proofs.TwosComplement.{back}
+use Rattle.limits.specs.Limits.{validGravity}
+use Rattle.bath_file.specs.File.{checkedHeader}
 use Rattle.bath_file.proofs.check_values.Statement.{statement}
 use Rattle.bath_file.proofs.check_values.Tie as tie
 

@@ -5,10 +5,11 @@ use mathlib.Core.Path.{ap, _∙_}
 use mathlib.Core.List.{[], _∷_}
 use Rattle.refusal.specs.Refused.{result}
 use Rattle.apic.specs.Limits.{SizeLimits}
-use Rattle.particle.specs.Bits.{cut, join, widths, residue}
-use Rattle.particle.proofs.Signed.{back, mag-le}
+use Rattle.bits.specs.Bits.{residue}
+use Rattle.bits.specs.Layout.{filled}
+use Rattle.bits.proofs.TwosComplement.{back, mag-le}
 use Rattle.particles.proofs.Checks.{size-limits}
-use Rattle.bath_file.specs.Layout.{layout, byteWidths}
+use Rattle.bath_file.specs.Layout.{layout}
 use Rattle.bath_file.specs.File.{headerOf}
 use Rattle.bath_file.proofs.Checks.{Valid, valid}
 use Rattle.bath_file.proofs.pack.Statement.{statement}
@@ -56,7 +57,7 @@ unfolding headerOf
 returns c =
     let h = c .before .before .before .before .before .before .before .before .before .before .before .before .before .args .h in
     c .before .before .put .ensures
-    ∙ ap (λ ds. cut byteWidths (join (widths layout) ds))
+    ∙ ap (filled layout)
     (λ i.
     h .nx ∷
     h .ny ∷

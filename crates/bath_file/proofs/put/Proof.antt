@@ -4,7 +4,7 @@ use borrow.Author.Needs.{needs}
 use mathlib.Core.Path.{ap, ap₂, _∙_}
 use denote.Ref.{now}
 use lib.ListN.{set}
-use Rattle.particle.specs.Internal.{wordBytes, stored}
+use Rattle.bits.specs.Internal.{wordBytes, stored}
 use Rattle.bath_file.proofs.Bytes.{number, first-word, last-byte, word-and-byte}
 use Rattle.bath_file.proofs.put.Statement.{statement}
 use Rattle.bath_file.proofs.put.Tie as tie

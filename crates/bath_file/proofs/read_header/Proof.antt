@@ -5,26 +5,27 @@ use denote.Ref.{now}
 use lib.ListN.{length, take}
 use lib.Seq.{length-take-le}
 use Rattle.refusal.specs.Refused.{result}
+use Rattle.bath_file.specs.Layout.{headerLength}
 use Rattle.bath_file.specs.File.{headerIn, checkedHeader, toldRead}
 use Rattle.bath_file.proofs.Answers.{too-short, header-refused, header-spare, header-accepted}
 use Rattle.bath_file.proofs.read_header.Statement.{statement}
 use Rattle.bath_file.proofs.read_header.Tie as tie
 
-nine : (c : tie.Else1) → length (take 9 (now (c .before .before .args .bytes))) ≡ 9
-nine c = length-take-le 9 (now (c .before .before .args .bytes)) (c .if1 .left)
+long : (c : tie.Else1) → length (take headerLength (now (c .before .before .args .bytes))) ≡ headerLength
+long c = length-take-le headerLength (now (c .before .before .args .bytes)) (c .if1 .left)
 
--- what the values' checks answer of the header that the nine bytes hold
-values : (c : tie.After-check-values) → checkedHeader (headerIn (take 9 (now (c .before .before .before .before .before .args .bytes)))) (result (headerIn (take 9 (now (c .before .before .before .before .before .args .bytes))))) ≡ toldRead (c .check-values .result)
+-- what the values' checks answer of the header that the first bytes hold
+values : (c : tie.After-check-values) → checkedHeader (headerIn (take headerLength (now (c .before .before .before .before .before .args .bytes)))) (result (headerIn (take headerLength (now (c .before .before .before .before .before .args .bytes))))) ≡ toldRead (c .check-values .result)
 values c = ap (λ h. checkedHeader h (result h)) (sym (c .before .unpack .ensures)) ∙ sym (c .check-values .ensures)
 
 returns : tie.Need-returns
 returns c = sym (too-short (now (c .before .before .args .bytes)) (c .if1 .taken))
 
 slice-aggregate-header : tie.Need-slice-aggregate-header
-slice-aggregate-header c = sym (nine (c .before))
+slice-aggregate-header c = sym (long (c .before))
 
 unpack-requires : tie.Need-unpack-requires
-unpack-requires c κs = nine (c .before)
+unpack-requires c κs = long (c .before)
 
 check-values-requires : tie.Need-check-values-requires
 check-values-requires c κs = search needs
@@ -36,7 +37,7 @@ enum-known-h : tie.Need-enum-known-h
 enum-known-h c = search needs
 
 spare-bits-requires : tie.Need-spare-bits-requires
-spare-bits-requires c κs = nine (c .before .before .before .before .before .before)
+spare-bits-requires c κs = long (c .before .before .before .before .before .before)
 
 returns-2 : tie.Need-returns-2
 returns-2 c = sym (header-spare (now (c .before .before .before .before .before .before .before .before .before .before .args .bytes)) (c .before .before .before .before .before .before .before .before .if1 .left) (values (c .before .before .before .before .before) ∙ ap toldRead (c .before .before .before .h .given .1)) (subst (λ n. n ≡ 0 → ⊥) (c .before .spare-bits .ensures) (c .if2 .taken)))

@@ -1,7 +1,12 @@
 -- `spare_bits` meets its contract. Assumes nothing.
 use borrow.Author.Needs.{needs}
 use denote.Ref.{now}
-use Rattle.bath_file.proofs.Fields.{bytes, part-spare}
+use mathlib.Core.Path.{refl}
+use Rattle.bits.specs.Bits.{join}
+use Rattle.bits.specs.Layout.{byteWidths}
+use Rattle.bits.proofs.Bytes.{byte-of}
+use Rattle.bath_file.specs.Layout.{layout}
+use Rattle.bath_file.proofs.Bytes.{spare-part}
 use Rattle.bath_file.proofs.spare_bits.Statement.{statement}
 use Rattle.bath_file.proofs.spare_bits.Tie as tie
 
@@ -14,7 +19,7 @@ cast-result c = search needs
 returns : tie.Need-returns
 returns c =
     let l = now (c .before .args .bytes) in
-    part-spare l (bytes l (c .before .pre) (λ k. c .shared-slice-known .given k .fits))
+    spare-part (join (byteWidths layout) l) (byte-of l (c .before .pre) (λ k. c .shared-slice-known .given k .fits) 8 0 refl)
 
 pub spare-bits-spec : {M : Type 1} → statement M
 spare-bits-spec = tie.close (tie.spec shared-slice-read-result cast-result returns)

@@ -1,13 +1,18 @@
 -- `unpack` meets its contract: the word and the byte are the header's, and each field follows as a part of them. Assumes nothing.
 use borrow.Author.Needs.{needs}
 use native.Mathlib.Omega.{arith}
-use Prim.Native.Nat.{_<_}
-use mathlib.Core.Path.{refl}
+use Prim.Native.Nat.{ℕ, _<_}
+use mathlib.Core.Path.{_≡_, refl, _∙_}
 use denote.Ref.{now}
-use lib.ListN.{getD}
-use Rattle.particle.proofs.Signed.{signed-part}
+use lib.Dec.{lit≤}
+use lib.ListN.{length, getD}
+use Rattle.bits.specs.Bits.{join}
+use Rattle.bits.specs.Layout.{byteWidths}
+use Rattle.bits.proofs.Bytes.{word-of, byte-of, field-read, top-read}
+use Rattle.bits.proofs.TwosComplement.{signed-part}
+use Rattle.bath_file.specs.Layout.{layout, headerLength}
 use Rattle.bath_file.specs.File.{headerIn}
-use Rattle.bath_file.proofs.Fields.{Bytes, bytes, part, part-nx, part-steps}
+use Rattle.bath_file.proofs.Bytes.{steps-part}
 use Rattle.bath_file.proofs.unpack.Statement.{statement}
 use Rattle.bath_file.proofs.unpack.Tie as tie
 
@@ -69,16 +74,19 @@ returns : tie.Need-returns
 unfolding headerIn
 returns c =
     let l = now (c .before .before .before .before .before .before .before .before .before .before .before .args .bytes) in
-    let known : Bytes l = bytes l (c .before .before .before .before .before .before .before .before .before .before .before .pre) (λ k. c .before .before .before .before .before .before .before .before .before .before .shared-slice-known .given k .fits) in
-    let first = c .before .before .before .before .before .before .before .before .before .word .ensures in
+    let n = join (byteWidths layout) l in
+    let long : length l ≡ headerLength = c .before .before .before .before .before .before .before .before .before .before .before .pre in
+    let small : (k : ℕ) → getD l k 0 < 256 = λ k. c .before .before .before .before .before .before .before .before .before .before .shared-slice-known .given k .fits in
+    let first = c .before .before .before .before .before .before .before .before .before .word .ensures ∙ word-of l long small 0 1 refl in
+    let last = byte-of l long small 8 0 refl in
     λ i.
     record {
-      nx = part-nx l known first (c .before .before .before .before .before .before .before .low .ensures) i;
-      ny = part l known first 52 6 10 refl (c .before .before .before .before .before .before .low2 .ensures) i;
-      gx = signed-part 8192 (c .before .before .before .before .signed-low .ok) (c .before .before .before .before .signed-low .ensures) (part l known first 38 14 2 refl (c .before .before .before .before .before .low3 .ensures)) i;
-      gy = signed-part 8192 (c .before .before .signed-low2 .ok) (c .before .before .signed-low2 .ensures) (part l known first 24 14 2 refl (c .before .before .before .low4 .ensures)) i;
-      count = part l known first 11 13 3 refl (c .before .low5 .ensures) i;
-      steps = part-steps l known first (c .low6 .ensures) i;
+      nx = top-read n 8 58 6 first (c .before .before .before .before .before .before .before .low .ensures) (lit≤ tt) refl i;
+      ny = field-read n 8 52 6 first (c .before .before .before .before .before .before .low2 .ensures) (lit≤ tt) (lit≤ tt) i;
+      gx = signed-part 8192 (c .before .before .before .before .signed-low .ok) (c .before .before .before .before .signed-low .ensures) (field-read n 8 38 14 first (c .before .before .before .before .before .low3 .ensures) (lit≤ tt) (lit≤ tt)) i;
+      gy = signed-part 8192 (c .before .before .signed-low2 .ok) (c .before .before .signed-low2 .ensures) (field-read n 8 24 14 first (c .before .before .before .low4 .ensures) (lit≤ tt) (lit≤ tt)) i;
+      count = field-read n 8 11 13 first (c .before .low5 .ensures) (lit≤ tt) (lit≤ tt) i;
+      steps = steps-part n last first (c .low6 .ensures) i;
     }
 
 pub unpack-spec : {M : Type 1} → statement M

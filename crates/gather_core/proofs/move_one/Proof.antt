@@ -1,89 +1,96 @@
--- `gather_core::move_one` meets its contract: record k stands in the array, and its nine nodes on the grid. Assumes nothing.
-use mathlib.Core.Path.{sym, subst₂, _∙_}
-use Prim.Native.Nat.{_+_}
+-- `gather_core::move_one` meets its contract: particle k stands in the array, and its nine nodes on the grid. Assumes nothing.
+use mathlib.Core.Path.{_≡_, sym, ap, subst, subst₂, _∙_}
+use Prim.Native.Nat.{_+_, _≤_}
+use native.Mathlib.Nat.{le-trans}
 use native.Mathlib.Omega.{arith}
+use lib.Dec.{lit≤}
+use lib.IntN.{pos, natAbs}
 use mir.Syntax.{w64}
 use borrow.Author.Needs.{needs}
-use Rattle.arith.specs.Size.{bound-pos, below}
-use Rattle.arith.specs.Machine.{read, read-as, read-bound}
-use Rattle.unpacked.specs.Unpacked.{particleAt}
+use Rattle.arith.specs.Size.{bound-pos, bound-equal}
+use Rattle.arith.specs.Machine.{read-natural, read-result}
+use Rattle.spline.specs.Kernel.{weightIn}
+use Rattle.unpacked.specs.Unpacked.{ParticleAt}
+use Rattle.unpacked.proofs.Laws.{some-at, x-at, y-at}
 use Rattle.gather_point.specs.Point.{Around, axisAt}
 use Rattle.gather_point.proofs.Nodes.{axis-at}
 use Rattle.gather_core.specs.Gather.{gathered}
-use Rattle.gather_core.proofs.Record.{Placed, placed, moves, x-axis, y-axis}
+use Rattle.gather_core.proofs.Record.{placed, moves, x-axis, y-axis}
 use Rattle.gather_core.proofs.move_one.Statement.{statement}
 use Rattle.gather_core.proofs.move_one.Tie as tie
 
-at : (c : tie.Start) → Placed (c .args .nx) (c .args .ny) (c .args .from .now) (c .args .k) (c .args .ux .now) (c .args .uy .now)
-at c = placed (c .pre .0) (c .args .k) (c .pre .2)
+-- a particle that stands there
+some : (c : tie.Start) → ParticleAt (c .args .nx) (c .args .ny) (c .args .from .now) (c .args .k)
+some c = some-at (c .pre .0 .particles) (c .args .k) (c .pre .2)
+
+around : (c : tie.Start) → Around (c .args .nx) (some c .particle .x) (some c .particle .y) (c .args .ux .now) (c .args .uy .now)
+around c = placed (c .pre .0 .x-velocities) (c .pre .0 .y-velocities) (some c .holds) .around
+
+-- its coordinates
+x-is : (c : tie.After-natural-at) → c .natural-at .result ≡ some (c .before) .particle .x
+x-is c = c .natural-at .ensures ∙ ap natAbs (some (c .before) .holds .numbers .x)
+
+y-is : (c : tie.After-natural-at2) → c .natural-at2 .result ≡ some (c .before .before) .particle .y
+y-is c = c .natural-at2 .ensures ∙ ap natAbs (some (c .before .before) .holds .numbers .y)
+
+x-most : (c : tie.After-natural-at) → c .natural-at .result ≤ 4095
+x-most c = subst (λ x. x ≤ 4095) (sym (x-is c)) (around (c .before) .x-most)
+
+y-most : (c : tie.After-natural-at2) → c .natural-at2 .result ≤ 4095
+y-most c = subst (λ y. y ≤ 4095) (sym (y-is c)) (around (c .before .before) .y-most)
 
 mul-at : tie.Need-mul-at
 mul-at c = search needs
 
-add-coordinate : tie.Need-add-coordinate
-add-coordinate c = search needs
+add-natural-at : tie.Need-add-natural-at
+add-natural-at c = search needs
 
-coordinate-requires : tie.Need-coordinate-requires
-coordinate-requires c κs = (omega (arith, at c .inside), at c .x-nonneg)
+natural-at-requires : tie.Need-natural-at-requires
+natural-at-requires c κs = x-at (some c .holds)
 
-add-coordinate-2 : tie.Need-add-coordinate-2
-add-coordinate-2 c = search needs
+cast-x : tie.Need-cast-x
+cast-x c = search needs
 
-coordinate-requires-2 : tie.Need-coordinate-requires-2
-coordinate-requires-2 c κs = (omega (arith, at (c .before) .inside), at (c .before) .y-nonneg)
+add-natural-at-2 : tie.Need-add-natural-at-2
+add-natural-at-2 c = search needs
+
+natural-at-requires-2 : tie.Need-natural-at-requires-2
+natural-at-requires-2 c κs = y-at (some (c .before) .holds)
+
+cast-y : tie.Need-cast-y
+cast-y c = search needs
 
 gather-at-requires : tie.Need-gather-at-requires
 gather-at-requires c κs =
     let s = c .before .before in
-    subst₂ (λ x y. Around (s .args .nx) x y (s .args .ux .now) (s .args .uy .now)) (sym (c .before .coordinate .ensures)) (sym (c .coordinate2 .ensures)) (at s .around)
+    subst₂ (λ x y. Around (s .args .nx) x y (s .args .ux .now) (s .args .uy .now)) (sym (x-is (c .before))) (sym (y-is c)) (around s)
 
 add-settle : tie.Need-add-settle
-add-settle c =
-    let s = c .before .before .before in
-    record { fits = omega (arith, s .pre .1, s .pre .2, s .pre .0 .particles .limits .count) }
+add-settle c = search needs
 
-mul-settle : tie.Need-mul-settle
-mul-settle c = search needs
+number-at-requires : tie.Need-number-at-requires
+number-at-requires c κs = omega (arith, some (c .before .before .before) .holds .inside)
 
-shared-slice-copy-out-settle : tie.Need-shared-slice-copy-out-settle
-shared-slice-copy-out-settle c = omega (arith, at (c .before .before .before) .inside)
+cast-settle : tie.Need-cast-settle
+cast-settle c = search needs
 
-add-settle-2 : tie.Need-add-settle-2
-add-settle-2 c = search needs
-
-mul-settle-2 : tie.Need-mul-settle-2
-mul-settle-2 c = search needs
-
-shared-slice-copy-out-settle-2 : tie.Need-shared-slice-copy-out-settle-2
-shared-slice-copy-out-settle-2 c = omega (arith, at (c .before .before .before .before) .inside)
-
-add-settle-3 : tie.Need-add-settle-3
-add-settle-3 c = search needs
-
-mul-settle-3 : tie.Need-mul-settle-3
-mul-settle-3 c = search needs
-
-shared-slice-copy-out-settle-3 : tie.Need-shared-slice-copy-out-settle-3
-shared-slice-copy-out-settle-3 c = omega (arith, at (c .before .before .before .before .before) .inside)
-
-add-settle-4 : tie.Need-add-settle-4
-add-settle-4 c = search needs
-
-mul-settle-4 : tie.Need-mul-settle-4
-mul-settle-4 c = search needs
-
-shared-slice-copy-out-settle-4 : tie.Need-shared-slice-copy-out-settle-4
-shared-slice-copy-out-settle-4 c = omega (arith, at (c .before .before .before .before .before .before) .inside)
+cast-settle-2 : tie.Need-cast-settle-2
+cast-settle-2 c = search needs
 
 settle-requires : tie.Need-settle-requires
 settle-requires c κs =
-    let m = c .before .before .before .before .before in
-    let s = m .before .before .before in
+    let n = c .before in
+    let m = n .before in
+    let y = m .before in
+    let x = y .before in
+    let s = x .before in
+    let p = some s in
     record {
-      sizes = s .pre .0 .particles .limits .sizes;
-      room = omega (arith, at s .inside, s .pre .0 .room);
-      x-size = read-bound w64 (at s .x-size) tt;
-      y-size = read-bound w64 (at s .y-size) tt;
+      sizes = p .holds .sizes;
+      room = omega (arith, p .holds .inside, s .pre .0 .room);
+      mass-size = bound-equal (sym (read-result w64 (n .number-at .ok) (n .number-at .ensures ∙ p .holds .numbers .mass))) (bound-pos (le-trans (p .holds .limits .mass-most) (lit≤ tt)));
+      x-size = bound-equal (sym (read-natural w64 (x-most x) tt)) (bound-pos (x-most x));
+      y-size = bound-equal (sym (read-natural w64 (y-most y) tt)) (bound-pos (y-most y));
       vx-size = m .gather-at .ensures .x-size;
       vy-size = m .gather-at .ensures .y-size;
     }
@@ -92,49 +99,45 @@ same-length : tie.Need-same-length
 same-length c = search needs
 
 returns : tie.Need-returns
-returns c =
+returns c p h =
     let b = c .before in
-    let m = b .before .before .before .before .before .before in
+    let n = b .before .before in
+    let m = n .before in
     let y = m .before in
     let x = y .before in
     let s = x .before in
     let a = s .args in
-    let p = at s in
-    let here = particleAt (a .from .now) (a .k) in
-    moves (a .nx) (a .ny) (a .first + a .k) (a .k) here (gathered (a .nx) (a .ny) (a .ux .now) (a .uy .now) here) (b .settle .ensures)
-    (read-as w64 (p .numbers .identifier) (bound-pos (below (p .limits .identifier))) tt)
-    (read-as w64 (p .numbers .mass) (bound-pos (p .limits .mass-most)) tt)
-    (read w64 (p .x-size) tt ∙ p .numbers .x)
-    (read w64 (p .y-size) tt ∙ p .numbers .y)
-    (m .gather-at .ensures .x-is ∙ (λ i. axisAt (a .table .now) (a .nx) (a .ux .now) (x .coordinate .ensures i) (y .coordinate2 .ensures i))
-    ∙ axis-at (a .nx) (a .ny) (a .table .now) (a .ux .now) here (s .pre .0 .weights-are) (p .on-x) (p .on-y)
-    ∙ x-axis (a .nx) (a .ny) (a .ux .now) (a .uy .now) here)
-    (m .gather-at .ensures .y-is ∙ (λ i. axisAt (a .table .now) (a .nx) (a .uy .now) (x .coordinate .ensures i) (y .coordinate2 .ensures i))
-    ∙ axis-at (a .nx) (a .ny) (a .table .now) (a .uy .now) here (s .pre .0 .weights-are) (p .on-x) (p .on-y)
-    ∙ y-axis (a .nx) (a .ny) (a .ux .now) (a .uy .now) here)
+    let w = weightIn (a .table .now) in
+    let t = placed (s .pre .0 .x-velocities) (s .pre .0 .y-velocities) h in
+    let of-x = x .natural-at .ensures ∙ ap natAbs (h .numbers .x) in
+    let of-y = y .natural-at2 .ensures ∙ ap natAbs (h .numbers .y) in
+    moves (a .nx) (a .ny) (a .first + a .k) (a .k) p (gathered w (a .nx) (a .ny) (a .ux .now) (a .uy .now) p) (b .settle .ensures)
+    (read-result w64 (n .number-at .ok) (n .number-at .ensures ∙ h .numbers .mass))
+    (read-natural w64 (x-most x) tt ∙ ap pos of-x)
+    (read-natural w64 (y-most y) tt ∙ ap pos of-y)
+    (m .gather-at .ensures .x-is ∙ (λ i. axisAt (a .table .now) (a .nx) (a .ux .now) (of-x i) (of-y i))
+    ∙ axis-at (a .table .now) (a .nx) (a .ny) (a .ux .now) p (t .on-x) (t .on-y)
+    ∙ x-axis w (a .nx) (a .ny) (a .ux .now) (a .uy .now) p)
+    (m .gather-at .ensures .y-is ∙ (λ i. axisAt (a .table .now) (a .nx) (a .uy .now) (of-x i) (of-y i))
+    ∙ axis-at (a .table .now) (a .nx) (a .ny) (a .uy .now) p (t .on-x) (t .on-y)
+    ∙ y-axis w (a .nx) (a .ny) (a .ux .now) (a .uy .now) p)
 
 pub move-one-spec : {M : Type 1} → statement M
 move-one-spec =
     tie.close
     (tie.spec
     mul-at
-    add-coordinate
-    coordinate-requires
-    add-coordinate-2
-    coordinate-requires-2
+    add-natural-at
+    natural-at-requires
+    cast-x
+    add-natural-at-2
+    natural-at-requires-2
+    cast-y
     gather-at-requires
     add-settle
-    mul-settle
-    shared-slice-copy-out-settle
-    add-settle-2
-    mul-settle-2
-    shared-slice-copy-out-settle-2
-    add-settle-3
-    mul-settle-3
-    shared-slice-copy-out-settle-3
-    add-settle-4
-    mul-settle-4
-    shared-slice-copy-out-settle-4
+    number-at-requires
+    cast-settle
+    cast-settle-2
     settle-requires
     same-length
     returns)

@@ -6,9 +6,11 @@ use mir.Syntax.{w64}
 use mir.Val.{toZ, ofZ}
 use mir.Facts.{toZ-ofZ}
 use borrow.Author.Needs.{needs}
-use Rattle.arith.specs.Machine.{read, read-result}
+use Rattle.arith.specs.Machine.{read, read-bound, read-result}
+use Rattle.unpacked.specs.Unpacked.{perParticle}
 use Rattle.gather_core.specs.Gather.{toldGathered}
 use Rattle.gather_core.specs.Parts.{particleStored, checkOf}
+use Rattle.gather_core.proofs.Record.{storable}
 use Rattle.gather_core.proofs.settle.Statement.{statement}
 use Rattle.gather_core.proofs.settle.Tie as tie
 
@@ -50,7 +52,11 @@ mul-store-particle : tie.Need-mul-store-particle
 mul-store-particle c = search needs
 
 store-particle-requires : tie.Need-store-particle-requires
-store-particle-requires c κs = search needs
+store-particle-requires c κs =
+    let h = c .before .before .before in
+    let s = c .before .before .before .before .before .before .before .before in
+    storable (s .args .index) (s .args .nx) (s .args .ny) (perParticle * s .args .k) (s .pre .sizes) (s .pre .room) (read-bound w64 (s .pre .mass-size) tt)
+    (sym (h .check .ensures) ∙ ap toldGathered (c .before .enum-told .given .1))
 
 returns : tie.Need-returns
 returns c =
@@ -68,7 +74,7 @@ returns-2 c =
     let s = p .before .before .before .before in
     record {
       answer = ap toldGathered (sym (e .enum-told .given .1)) ∙ answer-is h;
-      target-is = t .store-particle .ensures ∙ (λ i. particleStored (s .args .to .now) (10 * s .args .k) (toZ-ofZ (s .fits .identifier) i) (toZ-ofZ (s .fits .mass) i) (x-is p i) (y-is p i) (s .args .a) (s .args .b));
+      target-is = t .store-particle .ensures ∙ (λ i. particleStored (s .args .to .now) (perParticle * s .args .k) (toZ-ofZ (s .fits .mass) i) (x-is p i) (y-is p i) (s .args .a) (s .args .b));
     }
 
 pub settle-spec : {M : Type 1} → statement M

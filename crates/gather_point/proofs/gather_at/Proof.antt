@@ -7,17 +7,11 @@ use Rattle.gather_point.specs.Point.{affineVelocityOf, nineNodes, axisAt
 use Rattle.gather_point.proofs.gather_at.Statement.{statement}
 use Rattle.gather_point.proofs.gather_at.Tie as tie
 
-add-row : tie.Need-add-row
-add-row c = search needs
+weights-at-requires : tie.Need-weights-at-requires
+weights-at-requires c κs = search needs
 
-row-requires : tie.Need-row-requires
-row-requires c κs = search needs
-
-add-row-2 : tie.Need-add-row-2
-add-row-2 c = search needs
-
-row-requires-2 : tie.Need-row-requires-2
-row-requires-2 c κs = search needs
+weights-at-requires-2 : tie.Need-weights-at-requires-2
+weights-at-requires-2 c κs = search needs
 
 first-node-requires : tie.Need-first-node-requires
 first-node-requires c κs = search needs
@@ -47,8 +41,8 @@ returns c =
     let qx = read-result w64 (p .offset-of .ok) (p .offset-of .ensures .0) in
     let qy = read-result w64 (q .offset-of2 .ok) (q .offset-of2 .ensures .0) in
     record {
-      x-is = g .gather-axis .ensures .0 ∙ (λ i. affineVelocityOf (nineNodes (v .row .ensures i) (w .row2 .ensures i) (s .nx) (s .ux .now) (f .first-node .ensures i)) (qx i) (qy i));
-      y-is = c .gather-axis2 .ensures .0 ∙ (λ i. affineVelocityOf (nineNodes (v .row .ensures i) (w .row2 .ensures i) (s .nx) (s .uy .now) (f .first-node .ensures i)) (qx i) (qy i));
+      x-is = g .gather-axis .ensures .0 ∙ (λ i. affineVelocityOf (nineNodes (v .weights-at .ensures i) (w .weights-at2 .ensures i) (s .nx) (s .ux .now) (f .first-node .ensures i)) (qx i) (qy i));
+      y-is = c .gather-axis2 .ensures .0 ∙ (λ i. affineVelocityOf (nineNodes (v .weights-at .ensures i) (w .weights-at2 .ensures i) (s .nx) (s .uy .now) (f .first-node .ensures i)) (qx i) (qy i));
       x-size = g .gather-axis .ensures .1;
       y-size = c .gather-axis2 .ensures .1;
     }
@@ -57,10 +51,8 @@ pub gather-at-spec : {M : Type 1} → statement M
 gather-at-spec =
     tie.close
     (tie.spec
-    add-row
-    row-requires
-    add-row-2
-    row-requires-2
+    weights-at-requires
+    weights-at-requires-2
     first-node-requires
     offset-of-requires
     offset-of-requires-2

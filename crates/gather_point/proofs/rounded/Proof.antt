@@ -11,7 +11,7 @@ use mir.Syntax.{w64}
 use mir.Val.{SFits}
 use borrow.Author.Needs.{needs}
 use Rattle.arith.specs.Size.{Bound, fits, sizes}
-use Rattle.arith.specs.Rounding.{nearest, halvesAway, nearest-shift}
+use Rattle.arith.specs.Rounding.{rounded, nearest-shift}
 use Rattle.gather_point.proofs.rounded.Statement.{statement}
 use Rattle.gather_point.proofs.rounded.Tie as tie
 
@@ -22,7 +22,7 @@ sign-shift : (z : ℤ) → Bound z limit → shrZ z 9223372036854775808 ≡ neg�
 sign-shift (pos a) h = ap pos (omega (arith, h .size))
 sign-shift (negsuc a) h = ap negsuc (omega (arith, h .size))
 
-shifted : (z : ℤ) → Bound z limit → shrZ (z +ℤ pos 8589934592 +ℤ shrZ z 9223372036854775808) 17179869184 ≡ nearest halvesAway z (2 ^ 34)
+shifted : (z : ℤ) → Bound z limit → shrZ (z +ℤ pos 8589934592 +ℤ shrZ z 9223372036854775808) 17179869184 ≡ rounded z (2 ^ 34)
 shifted z h =
     ap (λ s. shrZ (z +ℤ pos 8589934592 +ℤ s) 17179869184) (sign-shift z h)
     ∙ sym (nearest-shift z 8589934592 (lit< tt))

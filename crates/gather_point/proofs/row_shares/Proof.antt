@@ -11,9 +11,9 @@ use mir.Val.{toZ, ofZ}
 use borrow.Author.Needs.{needs}
 use Rattle.arith.specs.Size.{Bound, bound-widen}
 use Rattle.arith.specs.Machine.{read, read-bound}
+use Rattle.arith.specs.Lists.{each-at}
 use Rattle.arith.specs.Sums.{Each}
 use Rattle.spline.specs.declared.AxisWeights.{AxisWeights}
-use Rattle.unpacked.proofs.Laws.{each-at}
 use Rattle.gather_point.specs.declared.Shares.{Shares}
 use Rattle.gather_point.specs.Point.{weighed, rowShares, SmallWeights, SmallShares}
 use Rattle.gather_point.proofs.Numbers.{row-small}

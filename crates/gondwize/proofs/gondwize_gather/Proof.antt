@@ -3,8 +3,8 @@ use borrow.Author.Needs.{needs}
 use mathlib.Core.Path.{ap}
 use denote.Ref.{now}
 use Rattle.transfer.specs.Transfer.{toldMoved, gatherAnswer}
-use Rattle.gondwize.proofs.Coding.{place-of, tells-done, tells-refused}
-use Rattle.gondwize.proofs.Places as places
+use Rattle.coding.proofs.Coding.{place-of, tells-done, tells-refused}
+use Rattle.coding.proofs.Places as places
 use Rattle.gondwize.proofs.gondwize_gather.Statement.{statement}
 use Rattle.gondwize.proofs.gondwize_gather.Tie as tie
 

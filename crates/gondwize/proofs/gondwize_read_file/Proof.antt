@@ -3,9 +3,9 @@ use borrow.Author.Needs.{needs}
 use mathlib.Core.Path.{ap}
 use denote.Ref.{now}
 use Rattle.bath_file.specs.File.{toldRead}
-use Rattle.gondwize.proofs.Accepted.{narrow}
-use Rattle.gondwize.proofs.Coding.{gave, kept, place-of}
-use Rattle.gondwize.proofs.Places as places
+use Rattle.coding.proofs.Accepted.{narrow}
+use Rattle.coding.proofs.Coding.{gave, kept, place-of}
+use Rattle.coding.proofs.Places as places
 use Rattle.gondwize.proofs.gondwize_read_file.Statement.{statement}
 use Rattle.gondwize.proofs.gondwize_read_file.Tie as tie
 

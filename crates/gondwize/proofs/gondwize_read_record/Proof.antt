@@ -3,8 +3,8 @@ use borrow.Author.Needs.{needs}
 use mathlib.Core.Path.{ap}
 use denote.Ref.{now}
 use Rattle.particle.specs.Record.{toldRead}
-use Rattle.gondwize.proofs.Coding.{gave, kept, place-of}
-use Rattle.gondwize.proofs.Places as places
+use Rattle.coding.proofs.Coding.{gave, kept, place-of}
+use Rattle.coding.proofs.Places as places
 use Rattle.gondwize.proofs.gondwize_read_record.Statement.{statement}
 use Rattle.gondwize.proofs.gondwize_read_record.Tie as tie
 

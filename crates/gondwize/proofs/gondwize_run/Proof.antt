@@ -1,35 +1,11 @@
--- `gondwize_run` meets its contract, which is that of the operation: gravity comes through unchanged, and the caller's number gets the
--- completed steps. Assumes nothing.
+-- `gondwize_run` meets its contract, which is that of `run_told`: gravity comes through unchanged. Assumes nothing.
 use borrow.Author.Needs.{needs}
-use mathlib.Core.Path.{sym, ap, _∙_}
-use denote.Ref.{now}
 use mir.Facts.{toZ-ofZ}
-use Rattle.simulation.specs.Step.{gridsOf}
-use Rattle.simulation.specs.Run.{toldRan}
-use Rattle.gondwize.specs.Coded.{coded}
-use Rattle.gondwize.specs.Runs.{settingsWith}
-use Rattle.gondwize.proofs.Coding.{place-of}
-use Rattle.gondwize.proofs.Places as places
 use Rattle.gondwize.proofs.gondwize_run.Statement.{statement}
 use Rattle.gondwize.proofs.gondwize_run.Tie as tie
 
-run-requires : tie.Need-run-requires
-run-requires c κs = search needs
-
-enum-known-count : tie.Need-enum-known-count
-enum-known-count c = search needs
-
-code-requires : tie.Need-code-requires
-code-requires c κs =
-    let s = c .before .before .before .before .before .before .before .before .before .before .before .before .before .before .before .before in
-    let h = c .before .before .before .before .before .before .before .before .before .run .ensures in
-    let u = rw (toZ-ofZ (s .fits .gx), toZ-ofZ (s .fits .gy)) at h in
-    place-of (c .before .count .given .0 .1 .0) (ap (λ r. r .stop) (u .answer)) (ap (λ r. toldRan r .stop) (c .before .count .given .1))
-    (places.run (settingsWith (s .args .nx) (s .args .ny) (s .args .gx) (s .args .gy)) (s .args .steps) (now (s .args .records))
-    (gridsOf (now (s .args .mass)) (now (s .args .px)) (now (s .args .py))))
-
-enum-known-count-2 : tie.Need-enum-known-count-2
-enum-known-count-2 c = search needs
+run-told-requires : tie.Need-run-told-requires
+run-told-requires c κs = search needs
 
 same-length : tie.Need-same-length
 same-length c = search needs
@@ -45,57 +21,11 @@ same-length-4 c = search needs
 
 returns : tie.Need-returns
 returns c =
-    let s = c .before .before .before .before .before .before .before .before .before .before .before .before .before .before .before .before .before in
-    let by = c .before .before .count .given .1 in
-    let run = c .before .before .before .before .before .before .before .before .before .before .run in
-    let h = run .ensures in
-    record {
-      completion = toldRan (run .result);
-      sees = rw (toZ-ofZ (s .fits .gx), toZ-ofZ (s .fits .gy)) at h;
-      coded-is = c .code .ensures ∙ sym (ap (λ r. coded (toldRan r .stop)) by);
-      completed-is = sym (ap (λ r. toldRan r .completed) by);
-    }
-
-same-length-5 : tie.Need-same-length-5
-same-length-5 c = search needs
-
-same-length-6 : tie.Need-same-length-6
-same-length-6 c = search needs
-
-same-length-7 : tie.Need-same-length-7
-same-length-7 c = search needs
-
-same-length-8 : tie.Need-same-length-8
-same-length-8 c = search needs
-
-returns-2 : tie.Need-returns-2
-returns-2 c =
-    let s = c .before .before .before .before .before .before .before .before .before .before .before .before .before .before .before .before in
-    let by = c .before .count2 .given .1 in
-    let run = c .before .before .before .before .before .before .before .before .before .run in
-    let h = run .ensures in
-    record {
-      completion = toldRan (run .result);
-      sees = rw (toZ-ofZ (s .fits .gx), toZ-ofZ (s .fits .gy)) at h;
-      coded-is = sym (ap (λ r. coded (toldRan r .stop)) by);
-      completed-is = sym (ap (λ r. toldRan r .completed) by);
-    }
+    let s = c .before .before .before .before .before .before .before .before .before .before .before .before .before .before in
+    let h = c .before .before .before .before .before .before .run-told .ensures in
+    rw (toZ-ofZ (s .fits .gx), toZ-ofZ (s .fits .gy)) at h
 
 pub gondwize-run-spec : {M : Type 1} → statement M
 gondwize-run-spec =
     tie.close
-    (tie.spec
-    run-requires
-    enum-known-count
-    code-requires
-    enum-known-count-2
-    same-length
-    same-length-2
-    same-length-3
-    same-length-4
-    returns
-    same-length-5
-    same-length-6
-    same-length-7
-    same-length-8
-    returns-2)
+    (tie.spec run-told-requires same-length same-length-2 same-length-3 same-length-4 returns)

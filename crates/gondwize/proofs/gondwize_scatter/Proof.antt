@@ -2,12 +2,13 @@
 use borrow.Author.Needs.{needs}
 use mathlib.Core.Path.{ap}
 use denote.Ref.{now}
-use Prim.Native.Nat.{_*_}
 use lib.ListN.{length}
-use Rattle.update.specs.Checks.{lengthsAre}
-use Rattle.transfer.specs.Transfer.{toldScattered, entryAnswer}
-use Rattle.gondwize.proofs.Coding.{place-of, tells-done, tells-refused}
-use Rattle.gondwize.proofs.Places as places
+use Rattle.settings.specs.Settings.{still}
+use Rattle.entry.specs.declared.Buffers.the-variants.{Three}
+use Rattle.entry.specs.Entry.{entryAnswer}
+use Rattle.transfer.specs.Transfer.{toldScattered}
+use Rattle.coding.proofs.Coding.{place-of, tells-done, tells-refused}
+use Rattle.coding.proofs.Places as places
 use Rattle.gondwize.proofs.gondwize_scatter.Statement.{statement}
 use Rattle.gondwize.proofs.gondwize_scatter.Tie as tie
 
@@ -21,9 +22,9 @@ code-requires : tie.Need-code-requires
 code-requires c κs =
     let a = c .before .before .before .before .before .before .before .before .before .before .before .before .before .args in
     let u = c .before .before .before .before .before .before .before .scatter .ensures in
-    let lengths = lengthsAre (a .nx * a .ny) (length (now (a .mass))) (length (now (a .px))) (length (now (a .py))) in
+    let buffers = Three (length (now (a .mass))) (length (now (a .px))) (length (now (a .py))) in
     place-of (c .before .refusal .given .0 .0) (u .answer) (ap toldScattered (c .before .refusal .given .1))
-    (places.told (entryAnswer (a .nx) (a .ny) (now (a .records)) lengths) (places.entry (a .nx) (a .ny) (now (a .records)) lengths))
+    (places.told (entryAnswer (still (a .nx) (a .ny)) buffers 0 (now (a .records))) (places.entry (still (a .nx) (a .ny)) buffers 0 (now (a .records))))
 
 enum-told : tie.Need-enum-told
 enum-told c = search needs

@@ -3,10 +3,11 @@ use borrow.Author.Needs.{needs}
 use mathlib.Core.Path.{ap}
 use denote.Ref.{now}
 use mir.Facts.{toZ-ofZ}
-use Rattle.simulation.specs.Step.{gridsOf, toldStepped}
-use Rattle.gondwize.specs.Runs.{settingsWith}
-use Rattle.gondwize.proofs.Coding.{place-of, tells-done, tells-refused}
-use Rattle.gondwize.proofs.Places as places
+use Rattle.apic.specs.Step.{gridsOf}
+use Rattle.simulation.specs.Step.{toldStepped}
+use Rattle.coding.specs.Runs.{settingsWith}
+use Rattle.coding.proofs.Coding.{place-of, tells-done, tells-refused}
+use Rattle.coding.proofs.Places as places
 use Rattle.gondwize.proofs.gondwize_step.Statement.{statement}
 use Rattle.gondwize.proofs.gondwize_step.Tie as tie
 

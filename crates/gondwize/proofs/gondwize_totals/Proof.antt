@@ -2,10 +2,10 @@
 use borrow.Author.Needs.{needs}
 use mathlib.Core.Path.{ap}
 use denote.Ref.{now}
-use Rattle.particles.specs.Set.{toldTotalled}
-use Rattle.gondwize.proofs.Accepted.{light}
-use Rattle.gondwize.proofs.Coding.{gave, kept, place-of}
-use Rattle.gondwize.proofs.Places as places
+use Rattle.totals.specs.Totals.{toldTotalled}
+use Rattle.coding.proofs.Accepted.{light}
+use Rattle.coding.proofs.Coding.{gave, kept, place-of}
+use Rattle.coding.proofs.Places as places
 use Rattle.gondwize.proofs.gondwize_totals.Statement.{statement}
 use Rattle.gondwize.proofs.gondwize_totals.Tie as tie
 

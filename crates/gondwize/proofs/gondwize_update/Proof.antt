@@ -3,9 +3,9 @@ use borrow.Author.Needs.{needs}
 use mathlib.Core.Path.{ap}
 use denote.Ref.{now}
 use mir.Facts.{toZ-ofZ}
-use Rattle.update.specs.Update.{toldUpdate}
-use Rattle.gondwize.proofs.Coding.{place-of, tells-done, tells-refused}
-use Rattle.gondwize.proofs.Places as places
+use Rattle.update.specs.Update.{toldUpdate, updateAnswer}
+use Rattle.coding.proofs.Coding.{place-of, tells-done, tells-refused}
+use Rattle.coding.proofs.Places as places
 use Rattle.gondwize.proofs.gondwize_update.Statement.{statement}
 use Rattle.gondwize.proofs.gondwize_update.Tie as tie
 
@@ -21,7 +21,8 @@ code-requires c κs =
     let h = c .before .before .before .before .before .update .ensures in
     let u = rw (toZ-ofZ (s .fits .gx), toZ-ofZ (s .fits .gy)) at h in
     place-of (c .before .refusal .given .0 .0) (u .answer) (ap toldUpdate (c .before .refusal .given .1))
-    (places.update (s .args .nx) (s .args .ny) (s .args .gx) (s .args .gy) (now (s .args .mass)) (now (s .args .px)) (now (s .args .py)))
+    (places.told (updateAnswer (s .args .nx) (s .args .ny) (s .args .gx) (s .args .gy) (now (s .args .mass)) (now (s .args .px)) (now (s .args .py)))
+    (places.update (s .args .nx) (s .args .ny) (s .args .gx) (s .args .gy) (now (s .args .mass)) (now (s .args .px)) (now (s .args .py))))
 
 enum-told : tie.Need-enum-told
 enum-told c = search needs

@@ -3,8 +3,8 @@ use borrow.Author.Needs.{needs}
 use mathlib.Core.Path.{ap}
 use mir.Facts.{toZ-ofZ}
 use Rattle.spline.specs.Answers.{toldWeights}
-use Rattle.gondwize.proofs.Coding.{gave, kept, place-of}
-use Rattle.gondwize.proofs.Places as places
+use Rattle.coding.proofs.Coding.{gave, kept, place-of}
+use Rattle.coding.proofs.Places as places
 use Rattle.gondwize.proofs.gondwize_weights.Statement.{statement}
 use Rattle.gondwize.proofs.gondwize_weights.Tie as tie
 

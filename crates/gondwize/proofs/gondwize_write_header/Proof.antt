@@ -5,8 +5,8 @@ use denote.Ref.{now}
 use mir.Facts.{toZ-ofZ}
 use Rattle.bath_file.specs.File.{toldWritten}
 use Rattle.wide.specs.Values.{headerWith}
-use Rattle.gondwize.proofs.Coding.{place-of, code-of, zero-of}
-use Rattle.gondwize.proofs.Places as places
+use Rattle.coding.proofs.Coding.{place-of, code-of, zero-of}
+use Rattle.coding.proofs.Places as places
 use Rattle.gondwize.proofs.gondwize_write_header.Statement.{statement}
 use Rattle.gondwize.proofs.gondwize_write_header.Tie as tie
 

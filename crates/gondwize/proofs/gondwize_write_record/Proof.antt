@@ -5,8 +5,8 @@ use denote.Ref.{now}
 use mir.Facts.{toZ-ofZ}
 use Rattle.particle.specs.Record.{toldWritten}
 use Rattle.wide.specs.Values.{particleWith}
-use Rattle.gondwize.proofs.Coding.{place-of, code-of, zero-of}
-use Rattle.gondwize.proofs.Places as places
+use Rattle.coding.proofs.Coding.{place-of, code-of, zero-of}
+use Rattle.coding.proofs.Places as places
 use Rattle.gondwize.proofs.gondwize_write_record.Statement.{statement}
 use Rattle.gondwize.proofs.gondwize_write_record.Tie as tie
 

@@ -1,18 +1,23 @@
 -- `packing::pack_particle` meets its contract: the part that is lent holds the particle's record. Assumes nothing.
 use borrow.Author.Needs.{needs}
-use mathlib.Core.Path.{sym, ap, _∙_, subst}
+use mathlib.Core.Path.{refl, sym, ap, _∙_, subst}
 use Prim.Native.Nat.{_+_, _*_}
 use native.Mathlib.Omega.{arith}
 use borrow.Rule.Slice.PartMut.{mid-len}
 use denote.Ref.{now}
+use Rattle.particle.specs.Layout.{recordLength}
 use Rattle.particle.specs.Record.{recordOf, Valid}
 use Rattle.particle.proofs.Valid.{valid-write}
 use Rattle.packing.proofs.Filling.{part-placed}
+use Rattle.packing.proofs.Sets.{named, named-at, named-valid}
 use Rattle.packing.proofs.pack_particle.Statement.{statement}
 use Rattle.packing.proofs.pack_particle.Tie as tie
 
 mul-at : tie.Need-mul-at
 mul-at c = search needs
+
+particle-in-requires : tie.Need-particle-in-requires
+particle-in-requires c κs = search needs
 
 particle-at-requires : tie.Need-particle-at-requires
 particle-at-requires c κs = search needs
@@ -31,25 +36,30 @@ part-pack-end c = search needs
 
 pack-requires : tie.Need-pack-requires
 pack-requires c κs =
-    let s = c .before .before .before in (
-      valid-write (c .before .particle-at .result) (subst Valid (sym (c .before .particle-at .ensures)) (s .pre .0 .valid)),
-      mid-len (14 * s .args .k) (14 * s .args .k + 14) (now (s .args .records)) (s .pre .1) ∙ omega arith,
+    let s = c .before .before .before .before .before in
+    let identifier = c .before .before .particle-in .result .identifier in
+    let readable = s .pre .0 .readable in
+    let p = named identifier (readable .particle) in
+    let read = c .before .particle-at .ensures p (named-at identifier (readable .numbers)) refl in (
+      valid-write (c .before .particle-at .result) (subst Valid (sym read) (named-valid identifier (s .pre .0 .valid))),
+      mid-len (recordLength * s .args .k) (recordLength * s .args .k + recordLength) (now (s .args .records)) (s .pre .1) ∙ omega arith,
     )
 
 same-length : tie.Need-same-length
 same-length c = search needs
 
 returns : tie.Need-returns
-returns c =
-    let a = c .before .before .before .before .before .before .args in
-    part-placed 14 (a .k) (now (a .records))
-    (c .before .before .pack .ensures ∙ ap recordOf (c .before .before .before .before .particle-at .ensures))
+returns c p n e =
+    let a = c .before .before .before .before .before .before .before .before .args in
+    part-placed recordLength (a .k) (now (a .records))
+    (c .before .before .pack .ensures ∙ ap recordOf (c .before .before .before .before .particle-at .ensures p n (e ∙ ap (λ q. q .identifier) (sym (c .before .before .before .before .before .particle-in .ensures)))))
 
 pub pack-particle-spec : {M : Type 1} → statement M
 pack-particle-spec =
     tie.close
     (tie.spec
     mul-at
+    particle-in-requires
     particle-at-requires
     add-pack
     sub-pack

@@ -1,6 +1,8 @@
--- `packing::particle_at` meets its contract: each number is the particle's, and of 16 bits. Assumes nothing.
+-- `packing::particle_at` meets its contract: each number is the particle's. Assumes nothing.
 use borrow.Author.Needs.{needs}
+use mathlib.Core.Path.{sym, ap, _∙_}
 use native.Mathlib.Omega.{arith}
+use lib.IntN.{natAbs}
 use mir.Syntax.{w16}
 use Rattle.arith.specs.Machine.{read-result}
 use Rattle.packing.proofs.particle_at.Statement.{statement}
@@ -9,95 +11,92 @@ use Rattle.packing.proofs.particle_at.Tie as tie
 mul-at : tie.Need-mul-at
 mul-at c = search needs
 
-unsigned-at-requires : tie.Need-unsigned-at-requires
-unsigned-at-requires c κs = search needs
+natural-at-requires : tie.Need-natural-at-requires
+natural-at-requires c κs =
+    let r = c .pre in record { inside = omega (arith, r .inside); number = r .particle .mass; is = r .numbers .mass }
 
-add-unsigned-at : tie.Need-add-unsigned-at
-add-unsigned-at c = search needs
+add-natural-at : tie.Need-add-natural-at
+add-natural-at c = search needs
 
-unsigned-at-requires-2 : tie.Need-unsigned-at-requires-2
-unsigned-at-requires-2 c κs =
-    let p = c .before .pre in
-    record { inside = omega (arith, p .inside); unsigned = p .numbers .mass; small = omega (arith, p .valid .mass-to) }
+natural-at-requires-2 : tie.Need-natural-at-requires-2
+natural-at-requires-2 c κs =
+    let r = c .before .pre in record { inside = omega (arith, r .inside); number = r .particle .x; is = r .numbers .x }
 
-add-unsigned-at-2 : tie.Need-add-unsigned-at-2
-add-unsigned-at-2 c = search needs
+add-natural-at-2 : tie.Need-add-natural-at-2
+add-natural-at-2 c = search needs
 
-unsigned-at-requires-3 : tie.Need-unsigned-at-requires-3
-unsigned-at-requires-3 c κs =
-    let p = c .before .before .pre in
-    record { inside = omega (arith, p .inside); unsigned = p .numbers .x; small = omega (arith, p .valid .x-to) }
+natural-at-requires-3 : tie.Need-natural-at-requires-3
+natural-at-requires-3 c κs =
+    let r = c .before .before .pre in record { inside = omega (arith, r .inside); number = r .particle .y; is = r .numbers .y }
 
-add-unsigned-at-3 : tie.Need-add-unsigned-at-3
-add-unsigned-at-3 c = search needs
+add-t10 : tie.Need-add-t10
+add-t10 c = search needs
 
-unsigned-at-requires-4 : tie.Need-unsigned-at-requires-4
-unsigned-at-requires-4 c κs =
-    let p = c .before .before .before .pre in
-    record { inside = omega (arith, p .inside); unsigned = p .numbers .y; small = omega (arith, p .valid .y-to) }
+mul-t11 : tie.Need-mul-t11
+mul-t11 c = search needs
 
-add-signed-at : tie.Need-add-signed-at
-add-signed-at c = search needs
+shared-slice-copy-out-t13 : tie.Need-shared-slice-copy-out-t13
+shared-slice-copy-out-t13 c = search needs
 
-signed-at-requires : tie.Need-signed-at-requires
-signed-at-requires c κs =
-    let p = c .before .before .before .before .pre in
-    record { inside = omega (arith, p .inside); small = omega (arith, p .valid .vx-to) }
+add-t14 : tie.Need-add-t14
+add-t14 c = search needs
 
-add-signed-at-2 : tie.Need-add-signed-at-2
-add-signed-at-2 c = search needs
+mul-t15 : tie.Need-mul-t15
+mul-t15 c = search needs
 
-signed-at-requires-2 : tie.Need-signed-at-requires-2
-signed-at-requires-2 c κs =
-    let p = c .before .before .before .before .before .pre in
-    record { inside = omega (arith, p .inside); small = omega (arith, p .valid .vy-to) }
+shared-slice-copy-out-t17 : tie.Need-shared-slice-copy-out-t17
+shared-slice-copy-out-t17 c = search needs
 
-add-signed-at-3 : tie.Need-add-signed-at-3
-add-signed-at-3 c = search needs
+add-t18 : tie.Need-add-t18
+add-t18 c = search needs
 
-signed-at-requires-3 : tie.Need-signed-at-requires-3
-signed-at-requires-3 c κs =
-    let p = c .before .before .before .before .before .before .pre in
-    record { inside = omega (arith, p .inside); small = omega (arith, p .valid .bxx-to) }
+mul-t19 : tie.Need-mul-t19
+mul-t19 c = search needs
 
-add-signed-at-4 : tie.Need-add-signed-at-4
-add-signed-at-4 c = search needs
+shared-slice-copy-out-t21 : tie.Need-shared-slice-copy-out-t21
+shared-slice-copy-out-t21 c = search needs
 
-signed-at-requires-4 : tie.Need-signed-at-requires-4
-signed-at-requires-4 c κs =
-    let p = c .before .before .before .before .before .before .before .pre in
-    record { inside = omega (arith, p .inside); small = omega (arith, p .valid .bxy-to) }
+add-t22 : tie.Need-add-t22
+add-t22 c = search needs
 
-add-signed-at-5 : tie.Need-add-signed-at-5
-add-signed-at-5 c = search needs
+mul-t23 : tie.Need-mul-t23
+mul-t23 c = search needs
 
-signed-at-requires-5 : tie.Need-signed-at-requires-5
-signed-at-requires-5 c κs =
-    let p = c .before .before .before .before .before .before .before .before .pre in
-    record { inside = omega (arith, p .inside); small = omega (arith, p .valid .byx-to) }
+shared-slice-copy-out-t25 : tie.Need-shared-slice-copy-out-t25
+shared-slice-copy-out-t25 c = search needs
 
-add-signed-at-6 : tie.Need-add-signed-at-6
-add-signed-at-6 c = search needs
+add-t26 : tie.Need-add-t26
+add-t26 c = search needs
 
-signed-at-requires-6 : tie.Need-signed-at-requires-6
-signed-at-requires-6 c κs =
-    let p = c .before .before .before .before .before .before .before .before .before .pre in
-    record { inside = omega (arith, p .inside); small = omega (arith, p .valid .byy-to) }
+mul-t27 : tie.Need-mul-t27
+mul-t27 c = search needs
+
+shared-slice-copy-out-t29 : tie.Need-shared-slice-copy-out-t29
+shared-slice-copy-out-t29 c = search needs
+
+add-t30 : tie.Need-add-t30
+add-t30 c = search needs
+
+mul-t31 : tie.Need-mul-t31
+mul-t31 c = search needs
+
+shared-slice-copy-out-t33 : tie.Need-shared-slice-copy-out-t33
+shared-slice-copy-out-t33 c = search needs
 
 returns : tie.Need-returns
-returns c =
+returns c p n e =
     λ i.
     record {
-      identifier = c .before .before .before .before .before .before .before .before .before .unsigned-at .ensures i;
-      mass = c .before .before .before .before .before .before .before .before .unsigned-at2 .ensures i;
-      x = c .before .before .before .before .before .before .before .unsigned-at3 .ensures i;
-      y = c .before .before .before .before .before .before .unsigned-at4 .ensures i;
-      vx = read-result w16 (c .before .before .before .before .before .signed-at .ok) (c .before .before .before .before .before .signed-at .ensures) i;
-      vy = read-result w16 (c .before .before .before .before .signed-at2 .ok) (c .before .before .before .before .signed-at2 .ensures) i;
-      bxx = read-result w16 (c .before .before .before .signed-at3 .ok) (c .before .before .before .signed-at3 .ensures) i;
-      bxy = read-result w16 (c .before .before .signed-at4 .ok) (c .before .before .signed-at4 .ensures) i;
-      byx = read-result w16 (c .before .signed-at5 .ok) (c .before .signed-at5 .ensures) i;
-      byy = read-result w16 (c .signed-at6 .ok) (c .signed-at6 .ensures) i;
+      identifier = sym e i;
+      mass = (c .before .before .before .before .before .before .before .before .natural-at .ensures ∙ ap natAbs (n .mass)) i;
+      x = (c .before .before .before .before .before .before .before .natural-at2 .ensures ∙ ap natAbs (n .x)) i;
+      y = (c .before .before .before .before .before .before .natural-at3 .ensures ∙ ap natAbs (n .y)) i;
+      vx = read-result w16 (c .before .before .before .before .before .t13 .given) (n .vx) i;
+      vy = read-result w16 (c .before .before .before .before .t17 .given) (n .vy) i;
+      bxx = read-result w16 (c .before .before .before .t21 .given) (n .bxx) i;
+      bxy = read-result w16 (c .before .before .t25 .given) (n .bxy) i;
+      byx = read-result w16 (c .before .t29 .given) (n .byx) i;
+      byy = read-result w16 (c .t33 .given) (n .byy) i;
     }
 
 pub particle-at-spec : {M : Type 1} → statement M
@@ -105,23 +104,27 @@ particle-at-spec =
     tie.close
     (tie.spec
     mul-at
-    unsigned-at-requires
-    add-unsigned-at
-    unsigned-at-requires-2
-    add-unsigned-at-2
-    unsigned-at-requires-3
-    add-unsigned-at-3
-    unsigned-at-requires-4
-    add-signed-at
-    signed-at-requires
-    add-signed-at-2
-    signed-at-requires-2
-    add-signed-at-3
-    signed-at-requires-3
-    add-signed-at-4
-    signed-at-requires-4
-    add-signed-at-5
-    signed-at-requires-5
-    add-signed-at-6
-    signed-at-requires-6
+    natural-at-requires
+    add-natural-at
+    natural-at-requires-2
+    add-natural-at-2
+    natural-at-requires-3
+    add-t10
+    mul-t11
+    shared-slice-copy-out-t13
+    add-t14
+    mul-t15
+    shared-slice-copy-out-t17
+    add-t18
+    mul-t19
+    shared-slice-copy-out-t21
+    add-t22
+    mul-t23
+    shared-slice-copy-out-t25
+    add-t26
+    mul-t27
+    shared-slice-copy-out-t29
+    add-t30
+    mul-t31
+    shared-slice-copy-out-t33
     returns)

@@ -2,6 +2,7 @@
 use borrow.Author.Needs.{needs}
 use mathlib.Core.Path.{_∙_}
 use denote.Ref.{now}
+use Rattle.unpacked.specs.Unpacked.{perParticle}
 use Rattle.packing.proofs.Filling.{part-placed}
 use Rattle.packing.proofs.put_particle.Statement.{statement}
 use Rattle.packing.proofs.put_particle.Tie as tie
@@ -38,7 +39,7 @@ same-length c = search needs
 
 returns : tie.Need-returns
 returns c =
-    part-placed 10 (c .before .before .before .before .before .args .k) (now (c .before .before .before .before .before .args .array)) (c .before .store .ensures ∙ c .before .before .before .before .numbers-of .ensures)
+    part-placed perParticle (c .before .before .before .before .before .args .k) (now (c .before .before .before .before .before .args .array)) (c .before .store .ensures ∙ c .before .before .before .before .numbers-of .ensures)
 
 pub put-particle-spec : {M : Type 1} → statement M
 put-particle-spec =

@@ -9,21 +9,22 @@ use denote.Ref.{now}
 use lib.ListN.{length, getD, take, set, length-set}
 use lib.Seq.{take-suc-set, take-suc, take-all}
 use lib.IntN.{ℤ, pos}
-use mir.Syntax.{w64}
+use mir.Syntax.{w16}
 use mir.Val.{SFits, toZ, ofZ}
 use mir.Facts.{toZ-ofZ}
+use Rattle.unpacked.specs.Unpacked.{perParticle}
 use Rattle.packing.proofs.store.Statement.{statement}
 use Rattle.packing.proofs.store.Tie as tie
 
-copied : (d s : List ℤ) (i : ℕ) → i < length d → i < length s → SFits w64 (getD s i (pos 0)) → take i d ≡ take i s → take (i + 1) (set d i (toZ w64 (ofZ w64 (getD s i (pos 0))))) ≡ take (i + 1) s
+copied : (d s : List ℤ) (i : ℕ) → i < length d → i < length s → SFits w16 (getD s i (pos 0)) → take i d ≡ take i s → take (i + 1) (set d i (toZ w16 (ofZ w16 (getD s i (pos 0))))) ≡ take (i + 1) s
 copied d s i h k f e =
     rw (add-one, toZ-ofZ f) (take-suc-set d i (getD s i (pos 0)) h ∙ ap (λ t. t ++ (getD s i (pos 0) ∷ [])) e ∙ sym (take-suc s i (pos 0) k))
 
 abbrev Inv-loop : tie.InvT-loop
-Inv-loop source target₀ i₀ target i = (i ≤ 10) × (length target ≡ 10) × (take i target ≡ take i source)
+Inv-loop source target₀ i₀ target i = (i ≤ perParticle) × (length target ≡ perParticle) × (take i target ≡ take i source)
 
 abbrev μ-loop : tie.MeasureT-loop
-μ-loop source target₀ i₀ target i = 10 - i
+μ-loop source target₀ i₀ target i = perParticle - i
 
 loop-holds : tie.Need-loop-holds Inv-loop μ-loop
 loop-holds c = (omega arith, c .pre .1, refl)

@@ -1,33 +1,41 @@
 -- `packing::unpack_set` meets its contract. The loop's invariant: the numbers of the first k particles are in their places. The
 -- measure is what is left. Assumes nothing.
+use mathlib.Core.Path.{sym, subst, _∙_}
 use Prim.Native.Nat.{_-_, _<_}
 use native.Mathlib.Omega.{arith}
 use denote.Ref.{now}
 use lib.ListN.{length}
-use Rattle.particles.specs.Set.{particleIn, particlesIn}
-use Rattle.unpacked.specs.Unpacked.{unpacked}
+use Rattle.particles.specs.Set.{recordAt, particlesIn}
+use Rattle.unpacked.specs.Unpacked.{perParticle, unpacked}
+use Rattle.unpacked.proofs.Laws.{nobody}
+use Rattle.packing.specs.Internal.{Narrow}
 use Rattle.packing.proofs.Filling.{Filled, number-parts, filled-start, filled-room, filled-next, filled-end}
-use Rattle.packing.proofs.Sets.{count-in, in-at}
+use Rattle.packing.proofs.Sets.{count-in, in-at, narrow}
 use Rattle.packing.proofs.unpack_set.Statement.{statement}
 use Rattle.packing.proofs.unpack_set.Tie as tie
 
 abbrev Inv-loop : tie.InvT-loop
-Inv-loop records array₀ count k₀ array k = Filled 10 unpacked (particlesIn records) array k
+Inv-loop records array₀ count k₀ array k = Filled perParticle unpacked (particlesIn records) array k
 
 abbrev μ-loop : tie.MeasureT-loop
 μ-loop records array₀ count k₀ array k = count - k
 
 loop-holds : tie.Need-loop-holds Inv-loop μ-loop
-loop-holds c =
-    filled-start number-parts (omega (arith, count-in (now (c .before .args .records))))
+loop-holds c = filled-start number-parts (omega (arith, count-in (now (c .before .args .records))))
 
 -- the record with the loop's index is there
 another : (c : tie.In-loop Inv-loop μ-loop) → c .before .loop .k < length (particlesIn (now (c .before .before .before .args .records)))
 another c = omega (arith, count-in (now (c .before .before .before .args .records)))
 
-unpack-record-requires : tie.Need-unpack-record-requires Inv-loop μ-loop
-unpack-record-requires c κs =
-    (omega arith, filled-room number-parts (c .before .before .loop .inv) (another (c .before)))
+particle-in-requires : tie.Need-particle-in-requires Inv-loop μ-loop
+particle-in-requires c κs = omega arith
+
+put-particle-requires : tie.Need-put-particle-requires Inv-loop μ-loop
+put-particle-requires c κs =
+    let l = c .before .before .before .loop in (
+      subst Narrow (sym (c .before .particle-in .ensures)) (narrow (recordAt 0 (now (c .before .before .before .before .before .args .records)) (l .k))),
+      filled-room number-parts (l .inv) (another (c .before .before)),
+    )
 
 add-k : tie.Need-add-k Inv-loop μ-loop
 add-k c = omega arith
@@ -37,9 +45,11 @@ loop-less c = omega arith
 
 loop-again : tie.Need-loop-again Inv-loop μ-loop
 loop-again c =
-    let l = c .before .before .before .before .loop in
-    let bytes = now (c .before .before .before .before .before .before .args .records) in
-    filled-next number-parts (l .inv) (another (c .before .before .before)) (in-at bytes (l .k) (particleIn bytes (l .k)) (c .before .before .before .loop-test .taken)) (c .before .unpack-record .ensures)
+    let l = c .before .before .before .before .before .loop in
+    let bytes = now (c .before .before .before .before .before .before .before .args .records) in
+    filled-next number-parts (l .inv) nobody (another (c .before .before .before .before))
+    (in-at bytes (l .k) nobody (c .before .before .before .before .loop-test .taken) ∙ sym (c .before .before .before .particle-in .ensures))
+    (c .before .put-particle .ensures)
 
 same-length : tie.Need-same-length Inv-loop μ-loop
 same-length c = omega (arith, count-in (now (c .before .before .before .args .records)))
@@ -55,7 +65,8 @@ unpack-set-spec =
     Inv-loop
     μ-loop
     loop-holds
-    unpack-record-requires
+    particle-in-requires
+    put-particle-requires
     add-k
     loop-less
     loop-again

@@ -3,10 +3,11 @@ use borrow.Author.Needs.{needs}
 use native.Mathlib.Omega.{arith}
 use mathlib.Core.Path.{_≡_, ap, _∙_}
 use mathlib.Core.List.{[], _∷_}
-use Rattle.particle.specs.Bits.{cut, join, widths, residue}
-use Rattle.particle.specs.Layout.{layout, byteWidths}
+use Rattle.bits.specs.Bits.{residue}
+use Rattle.bits.specs.Layout.{filled}
+use Rattle.bits.proofs.TwosComplement.{back, mag-le}
+use Rattle.particle.specs.Layout.{layout}
 use Rattle.particle.specs.Record.{recordOf}
-use Rattle.particle.proofs.Signed.{back, mag-le}
 use Rattle.particle.proofs.Valid.{write-valid}
 use Rattle.particle.proofs.pack.Statement.{statement}
 use Rattle.particle.proofs.pack.Tie as tie
@@ -91,7 +92,7 @@ unfolding recordOf
 returns c =
     let p = c .before .before .before .before .before .before .before .before .before .before .before .before .before .before .before .before .before .args .p in
     c .before .before .put .ensures
-    ∙ ap (λ ds. cut byteWidths (join (widths layout) ds))
+    ∙ ap (filled layout)
     (λ i.
     p .identifier ∷
     p .mass ∷

@@ -2,8 +2,10 @@
 use borrow.Author.Needs.{needs}
 use mathlib.Core.Path.{ap, ap₂, _∙_}
 use denote.Ref.{now}
-use Rattle.particle.specs.Internal.{wordBytes, stored}
-use Rattle.particle.proofs.Words.{number, first-word, second-word, two-words}
+use lib.Dec.{lit≤}
+use Rattle.bits.specs.Internal.{wordBytes, stored}
+use Rattle.bits.proofs.Bytes.{two-words}
+use Rattle.particle.proofs.Words.{number, first-word, second-word}
 use Rattle.particle.proofs.put.Statement.{statement}
 use Rattle.particle.proofs.put.Tie as tie
 
@@ -80,7 +82,7 @@ returns c =
     (c .before .before .before .before .before .before .put-word .ensures
     ∙ ap (λ v. stored (wordBytes v) (now (a .bytes)) 0)
     (first-word (a .identifier) (a .mass) (a .x) (a .y) (a .vx) (a .vy) (a .bxx) (a .bxy) (a .byx) (a .byy) below))
-    ∙ two-words (number (a .identifier) (a .mass) (a .x) (a .y) (a .vx) (a .vy) (a .bxx) (a .bxy) (a .byx) (a .byy) below) (now (a .bytes)) (c .before .before .before .before .before .before .before .before .before .pre .1)
+    ∙ two-words 6 (lit≤ tt) (number (a .identifier) (a .mass) (a .x) (a .y) (a .vx) (a .vy) (a .bxx) (a .bxy) (a .byx) (a .byy) below) (now (a .bytes)) (c .before .before .before .before .before .before .before .before .before .pre .1)
 
 pub put-spec : {M : Type 1} → statement M
 put-spec =

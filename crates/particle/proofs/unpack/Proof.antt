@@ -1,12 +1,17 @@
 -- `unpack` meets its contract: both words are the record's, and each field follows as a part of one. Assumes nothing.
 use borrow.Author.Needs.{needs}
 use native.Mathlib.Nat.{div-one}
-use mathlib.Core.Path.{refl, sym, ap, _∙_}
-use Prim.Native.Nat.{_/_, _%_, _^_}
+use mathlib.Core.Path.{_≡_, refl, sym, ap, _∙_}
+use Prim.Native.Nat.{ℕ, _%_, _<_}
 use denote.Ref.{now}
+use lib.Dec.{lit≤}
+use lib.ListN.{length, getD}
+use Rattle.bits.specs.Bits.{join}
+use Rattle.bits.specs.Layout.{byteWidths}
+use Rattle.bits.proofs.Bytes.{word-of, field-read, top-read}
+use Rattle.bits.proofs.TwosComplement.{signed-part}
+use Rattle.particle.specs.Layout.{layout, recordLength}
 use Rattle.particle.specs.Record.{particleOf}
-use Rattle.particle.proofs.Fields.{Bytes, bytes, first-part, first-read, last-read}
-use Rattle.particle.proofs.Signed.{signed-part}
 use Rattle.particle.proofs.unpack.Statement.{statement}
 use Rattle.particle.proofs.unpack.Tie as tie
 
@@ -68,21 +73,23 @@ returns : tie.Need-returns
 unfolding particleOf
 returns c =
     let l = now (c .before .before .before .before .before .before .before .before .before .before .before .before .before .before .before .before .before .before .before .args .bytes) in
-    let known : Bytes l = bytes l (c .before .before .before .before .before .before .before .before .before .before .before .before .before .before .before .before .before .before .before .pre) (λ k. c .before .before .before .before .before .before .before .before .before .before .before .before .before .before .before .before .before .before .shared-slice-known .given k .fits) in
-    let first = c .before .before .before .before .before .before .before .before .before .before .before .before .before .before .before .before .before .word .ensures in
-    let last = c .before .before .before .before .before .before .before .before .before .before .before .before .before .before .before .before .word2 .ensures in
+    let n = join (byteWidths layout) l in
+    let long : length l ≡ recordLength = c .before .before .before .before .before .before .before .before .before .before .before .before .before .before .before .before .before .before .before .pre in
+    let small : (k : ℕ) → getD l k 0 < 256 = λ k. c .before .before .before .before .before .before .before .before .before .before .before .before .before .before .before .before .before .before .shared-slice-known .given k .fits in
+    let first = c .before .before .before .before .before .before .before .before .before .before .before .before .before .before .before .before .before .word .ensures ∙ word-of l long small 0 6 refl in
+    let last = c .before .before .before .before .before .before .before .before .before .before .before .before .before .before .before .before .word2 .ensures ∙ word-of l long small 6 0 refl in
     λ i.
     record {
-      identifier = (c .before .before .before .before .before .before .before .before .before .before .before .before .before .before .before .low .ensures ∙ ap (λ n. n / 2 ^ 48 % 2 ^ 16) first ∙ first-part l known 48 16) i;
-      mass = first-read l known 38 10 6 refl first (c .before .before .before .before .before .before .before .before .before .before .before .before .before .before .low2 .ensures) i;
-      x = first-read l known 26 12 4 refl first (c .before .before .before .before .before .before .before .before .before .before .before .before .before .low3 .ensures) i;
-      y = first-read l known 14 12 4 refl first (c .before .before .before .before .before .before .before .before .before .before .before .before .low4 .ensures) i;
-      vx = signed-part 64 (c .before .before .before .before .before .before .before .before .before .before .signed-low .ok) (c .before .before .before .before .before .before .before .before .before .before .signed-low .ensures) (first-read l known 7 7 9 refl first (c .before .before .before .before .before .before .before .before .before .before .before .low5 .ensures)) i;
-      vy = signed-part 64 (c .before .before .before .before .before .before .before .before .signed-low2 .ok) (c .before .before .before .before .before .before .before .before .signed-low2 .ensures) (first-read l known 0 7 9 refl first (c .before .before .before .before .before .before .before .before .before .low6 .ensures ∙ ap (λ n. n % 65536) (sym (div-one _)))) i;
-      bxx = signed-part 2048 (c .before .before .before .before .before .before .signed-low3 .ok) (c .before .before .before .before .before .before .signed-low3 .ensures) (last-read l known 36 12 4 16 refl refl last (c .before .before .before .before .before .before .before .low7 .ensures)) i;
-      bxy = signed-part 2048 (c .before .before .before .before .signed-low4 .ok) (c .before .before .before .before .signed-low4 .ensures) (last-read l known 24 12 4 28 refl refl last (c .before .before .before .before .before .low8 .ensures)) i;
-      byx = signed-part 2048 (c .before .before .signed-low5 .ok) (c .before .before .signed-low5 .ensures) (last-read l known 12 12 4 40 refl refl last (c .before .before .before .low9 .ensures)) i;
-      byy = signed-part 2048 (c .signed-low6 .ok) (c .signed-low6 .ensures) (last-read l known 0 12 4 52 refl refl last (c .before .low10 .ensures ∙ ap (λ n. n % 65536) (sym (div-one _)))) i;
+      identifier = top-read n 48 48 16 first (c .before .before .before .before .before .before .before .before .before .before .before .before .before .before .before .low .ensures) (lit≤ tt) refl i;
+      mass = field-read n 48 38 10 first (c .before .before .before .before .before .before .before .before .before .before .before .before .before .before .low2 .ensures) (lit≤ tt) (lit≤ tt) i;
+      x = field-read n 48 26 12 first (c .before .before .before .before .before .before .before .before .before .before .before .before .before .low3 .ensures) (lit≤ tt) (lit≤ tt) i;
+      y = field-read n 48 14 12 first (c .before .before .before .before .before .before .before .before .before .before .before .before .low4 .ensures) (lit≤ tt) (lit≤ tt) i;
+      vx = signed-part 64 (c .before .before .before .before .before .before .before .before .before .before .signed-low .ok) (c .before .before .before .before .before .before .before .before .before .before .signed-low .ensures) (field-read n 48 7 7 first (c .before .before .before .before .before .before .before .before .before .before .before .low5 .ensures) (lit≤ tt) (lit≤ tt)) i;
+      vy = signed-part 64 (c .before .before .before .before .before .before .before .before .signed-low2 .ok) (c .before .before .before .before .before .before .before .before .signed-low2 .ensures) (field-read n 48 0 7 first (c .before .before .before .before .before .before .before .before .before .low6 .ensures ∙ ap (λ n. n % 65536) (sym (div-one _))) (lit≤ tt) (lit≤ tt)) i;
+      bxx = signed-part 2048 (c .before .before .before .before .before .before .signed-low3 .ok) (c .before .before .before .before .before .before .signed-low3 .ensures) (field-read n 0 36 12 last (c .before .before .before .before .before .before .before .low7 .ensures) (lit≤ tt) (lit≤ tt)) i;
+      bxy = signed-part 2048 (c .before .before .before .before .signed-low4 .ok) (c .before .before .before .before .signed-low4 .ensures) (field-read n 0 24 12 last (c .before .before .before .before .before .low8 .ensures) (lit≤ tt) (lit≤ tt)) i;
+      byx = signed-part 2048 (c .before .before .signed-low5 .ok) (c .before .before .signed-low5 .ensures) (field-read n 0 12 12 last (c .before .before .before .low9 .ensures) (lit≤ tt) (lit≤ tt)) i;
+      byy = signed-part 2048 (c .signed-low6 .ok) (c .signed-low6 .ensures) (field-read n 0 0 12 last (c .before .low10 .ensures ∙ ap (λ n. n % 65536) (sym (div-one _))) (lit≤ tt) (lit≤ tt)) i;
     }
 
 pub unpack-spec : {M : Type 1} → statement M

@@ -1,4 +1,4 @@
--- `write_record` meets its contract: the length, then what `allow` answers of the particle, and the buffer that goes with the answer. Assumes nothing.
+-- `write_record` meets its contract: the length, then what `check_write` answers of the particle, and the buffer that goes with the answer. Assumes nothing.
 use borrow.Author.Needs.{needs}
 use mathlib.Core.Path.{sym, ap, _∙_}
 use denote.Ref.{now}
@@ -12,8 +12,8 @@ returns c =
     let e = long (c .before .before .args .p) (now (c .before .before .args .bytes)) (c .if1 .taken) in
     (sym e, sym (after (c .before .before .args .p) (now (c .before .before .args .bytes)) e))
 
-allow-requires : tie.Need-allow-requires
-allow-requires c κs = search needs
+check-write-requires : tie.Need-check-write-requires
+check-write-requires c κs = search needs
 
 enum-known-answer : tie.Need-enum-known-answer
 enum-known-answer c = search needs
@@ -22,7 +22,7 @@ enum-told : tie.Need-enum-told
 enum-told c = search needs
 
 pack-requires : tie.Need-pack-requires
-pack-requires c κs = (sym (c .before .before .before .allow .ensures) ∙ ap toldWritten (c .before .enum-told .given .1), c .before .before .before .before .if1 .left)
+pack-requires c κs = (sym (c .before .before .before .check-write .ensures) ∙ ap toldWritten (c .before .enum-told .given .1), c .before .before .before .before .if1 .left)
 
 returns-2 : tie.Need-returns-2
 returns-2 c =
@@ -30,7 +30,7 @@ returns-2 c =
     let l = now (c .before .before .before .before .before .before .args .bytes) in
     let e =
     judged p l (c .before .before .before .before .if1 .left)
-    ∙ sym (c .before .before .before .allow .ensures)
+    ∙ sym (c .before .before .before .check-write .ensures)
     ∙ ap toldWritten (c .before .answer .given .1) in
     (sym e, sym (after p l e))
 
@@ -43,7 +43,7 @@ returns-3 c =
     let l = now (c .before .before .before .before .before .before .before .before .before .args .bytes) in
     let e =
     judged p l (c .before .before .before .before .before .before .before .if1 .left)
-    ∙ sym (c .before .before .before .before .before .before .allow .ensures)
+    ∙ sym (c .before .before .before .before .before .before .check-write .ensures)
     ∙ ap toldWritten (c .before .before .before .before .enum-told .given .1) in
     (sym e, c .before .before .pack .ensures ∙ sym (after p l e))
 
@@ -52,7 +52,7 @@ write-record-spec =
     tie.close
     (tie.spec
     returns
-    allow-requires
+    check-write-requires
     enum-known-answer
     enum-told
     pack-requires

@@ -1,4 +1,4 @@
--- `particles::check_set` meets its contract: the checks at entry, in order, and then the records'. Assumes nothing.
+-- `check_set` meets its contract: the checks at entry, in order, and then the records'. Assumes nothing.
 use mathlib.Core.Path.{_≡_, sym, ap, _∙_}
 use mathlib.Core.Bool.{true}
 use native.Mathlib.Omega.{arith}

@@ -1,4 +1,4 @@
--- `particles::on_axis` meets its contract: the two tests of the definition, in its order. Assumes nothing.
+-- `on_axis` meets its contract: the two tests of the definition, in its order. Assumes nothing.
 use borrow.Author.Needs.{needs}
 use borrow.Author.Tests.{le-leb, lt-leb}
 use Rattle.spline.specs.Spline.{onAxis}

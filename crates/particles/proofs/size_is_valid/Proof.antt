@@ -1,4 +1,4 @@
--- `particles::size_is_valid` meets its contract: the two sides, in order. Assumes nothing.
+-- `size_is_valid` meets its contract: the two sides, in order. Assumes nothing.
 use mathlib.Core.Path.{_≡_, sym, ap, _∙_}
 use mathlib.Core.Bool.{Bool, true, false, _&&_}
 use borrow.Author.Needs.{needs}

@@ -1,4 +1,4 @@
--- `program::run_accepted` meets its contract. Assumes nothing.
+-- `run_accepted` meets its contract. Assumes nothing.
 use borrow.Author.Needs.{needs}
 use Rattle.program.proofs.Files.{file-sizes, file-long, back-long, report-ready, accepted-prints}
 use Rattle.program.proofs.run_accepted.Statement.{statement}

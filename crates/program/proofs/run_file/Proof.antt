@@ -1,4 +1,4 @@
--- `program::run_file` meets its contract: a file is accepted or refused. Assumes nothing.
+-- `run_file` meets its contract: a file is accepted or refused. Assumes nothing.
 use mathlib.Core.Path.{refl, sym, ap, _∙_}
 use Rattle.bath_file.specs.File.{toldRead}
 use Rattle.program.proofs.Files.{prints}

@@ -2,7 +2,7 @@
 use borrow.Author.Needs.{needs}
 use native.Mathlib.Omega.{arith}
 use denote.Ref.{now}
-use Rattle.report.proofs.Texts.{put-as}
+use Rattle.text.proofs.Texts.{put-as}
 use Rattle.report.proofs.Bounds.{refused-length}
 use Rattle.report.proofs.Answers.{refused-outcome, done-outcome, stopped-outcome}
 use Rattle.report.proofs.put_outcome.Statement.{statement}

@@ -4,7 +4,7 @@ use mathlib.Core.Path.{sym, ap, _∙_}
 use denote.Ref.{now}
 use Rattle.particle.specs.Record.{particleOf}
 use Rattle.report.specs.Lines.{particleLine}
-use Rattle.report.proofs.Texts.{room-as, put-as}
+use Rattle.text.proofs.Texts.{room-as, put-as}
 use Rattle.report.proofs.Lines.{the-record}
 use Rattle.report.proofs.put_record.Statement.{statement}
 use Rattle.report.proofs.put_record.Tie as tie

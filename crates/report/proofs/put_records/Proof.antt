@@ -3,7 +3,7 @@
 use Prim.Native.Nat.{_-_}
 use native.Mathlib.Omega.{arith}
 use denote.Ref.{now}
-use Rattle.report.proofs.Puts.{put-length}
+use Rattle.text.proofs.Puts.{put-length}
 use Rattle.report.proofs.Lines.{Printed, printed-none, line-room, printed-more, printed-all}
 use Rattle.report.proofs.put_records.Statement.{statement}
 use Rattle.report.proofs.put_records.Tie as tie

@@ -5,9 +5,10 @@ use mathlib.Core.List.{_++_}
 use denote.Ref.{now}
 use Rattle.particles.specs.Set.{recordCount, particlesIn}
 use Rattle.report.specs.Lines.{doneLine, totalsLine}
-use Rattle.report.specs.Internal.{Room, linesUpTo}
+use Rattle.text.specs.Internal.{Room}
+use Rattle.report.specs.Internal.{linesUpTo}
 use Rattle.report.specs.Report.{runText}
-use Rattle.report.proofs.Puts.{put-then, room-first, room-second}
+use Rattle.text.proofs.Puts.{put-then, room-first, room-second}
 use Rattle.report.proofs.Bounds.{TotalsFit, run-length}
 use Rattle.report.proofs.put_run.Statement.{statement}
 use Rattle.report.proofs.put_run.Tie as tie

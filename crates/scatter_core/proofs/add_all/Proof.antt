@@ -3,15 +3,15 @@
 use mathlib.Core.Path.{sym, _∙_}
 use Prim.Native.Nat.{_-_}
 use native.Mathlib.Omega.{arith}
-use Rattle.scatter_core.proofs.Sets.{SoFar, begin, held-so-far, nth-ready, turn, finish}
+use Rattle.scatter_core.proofs.Sets.{SoFarIn, begin, held-so-far, nth-ready, turn, finish}
 use Rattle.scatter_core.proofs.add_all.Statement.{statement}
 use Rattle.scatter_core.proofs.add_all.Tie as tie
 
 abbrev Inv-loop : tie.InvT-loop
-Inv-loop particles nx ny table mass₀ px₀ py₀ count k₀ mass px py k = SoFar nx ny particles mass₀ px₀ py₀ mass px py k
+Inv-loop particles nx ny table d mass₀ px₀ py₀ count k₀ mass px py k = SoFarIn table d nx ny particles mass₀ px₀ py₀ mass px py k
 
 abbrev μ-loop : tie.MeasureT-loop
-μ-loop particles nx ny table mass₀ px₀ py₀ count k₀ mass px py k = count - k
+μ-loop particles nx ny table d mass₀ px₀ py₀ count k₀ mass px py k = count - k
 
 loop-holds : tie.Need-loop-holds Inv-loop μ-loop
 loop-holds c = begin (c .before .pre)
@@ -30,13 +30,13 @@ loop-again c =
     turn (c .before .before .before .before .before .before .before .before .before .before .before .pre) (c .before .before .before .before .before .before .before .before .before .loop .inv) (c .before .before .before .before .before .before .before .before .loop-test .taken) (c .before .before .before .before .add-nth .ensures)
 
 same-length : tie.Need-same-length Inv-loop μ-loop
-same-length c = held-so-far (c .before .before .before .pre) (c .before .loop .inv) .mass-long ∙ sym (c .before .before .before .pre .held .mass-long)
+same-length c = held-so-far (c .before .before .before .pre) (c .before .loop .inv) .mass-long ∙ sym (c .before .before .before .pre .room .held .mass-long)
 
 same-length-2 : tie.Need-same-length-2 Inv-loop μ-loop
-same-length-2 c = held-so-far (c .before .before .before .pre) (c .before .loop .inv) .px-long ∙ sym (c .before .before .before .pre .held .px-long)
+same-length-2 c = held-so-far (c .before .before .before .pre) (c .before .loop .inv) .px-long ∙ sym (c .before .before .before .pre .room .held .px-long)
 
 same-length-3 : tie.Need-same-length-3 Inv-loop μ-loop
-same-length-3 c = held-so-far (c .before .before .before .pre) (c .before .loop .inv) .py-long ∙ sym (c .before .before .before .pre .held .py-long)
+same-length-3 c = held-so-far (c .before .before .before .pre) (c .before .loop .inv) .py-long ∙ sym (c .before .before .before .pre .room .held .py-long)
 
 returns : tie.Need-returns Inv-loop μ-loop
 returns c = finish (c .before .before .before .pre) (c .before .loop .inv) (c .loop-test .left)

@@ -1,105 +1,97 @@
 -- `scatter_core::add_nth` meets its contract: nine numbers are read, and their particle is added. Assumes nothing.
-use native.Mathlib.Omega.{arith}
 use borrow.Author.Needs.{needs}
-use Rattle.scatter_core.proofs.Reading.{index-below, m-cast, x-cast, y-cast, nth-asked, nth-added}
+use mir.Syntax.{w64}
+use mir.Val.{toZ, ofZ}
+use Rattle.arith.specs.Machine.{read-result}
+use Rattle.unpacked.specs.Unpacked.{ParticleAt}
+use Rattle.unpacked.proofs.Laws.{some-at, mass-at, x-at, y-at}
+use Rattle.scatter_core.proofs.Reading.{Read, nth-asked, nth-added}
 use Rattle.scatter_core.proofs.add_nth.Statement.{statement}
 use Rattle.scatter_core.proofs.add_nth.Tie as tie
+
+-- a particle that stands there
+some : (c : tie.Start) → ParticleAt (c .args .nx) (c .args .ny) (c .args .particles .now) (c .args .k)
+some c = some-at (c .pre .set) (c .args .k) (c .pre .below)
+
+all-read : (c : tie.After-number-at6) → Read (c .before .before .before .before .before .before .before .before .before .before .args .particles .now) (c .before .before .before .before .before .before .before .before .before .before .args .k) (c .before .before .before .before .before .before .before .before .natural-at .result) (c .before .before .before .before .before .before .before .natural-at2 .result) (c .before .before .before .before .before .before .natural-at3 .result) (toZ w64 (ofZ w64 (c .before .before .before .before .before .number-at .result))) (toZ w64 (ofZ w64 (c .before .before .before .before .number-at2 .result))) (toZ w64 (ofZ w64 (c .before .before .before .number-at3 .result))) (toZ w64 (ofZ w64 (c .before .before .number-at4 .result))) (toZ w64 (ofZ w64 (c .before .number-at5 .result))) (toZ w64 (ofZ w64 (c .number-at6 .result)))
+all-read c =
+    record {
+      of-m = c .before .before .before .before .before .before .before .before .natural-at .ensures;
+      of-x = c .before .before .before .before .before .before .before .natural-at2 .ensures;
+      of-y = c .before .before .before .before .before .before .natural-at3 .ensures;
+      of-vx = read-result w64 (c .before .before .before .before .before .number-at .ok) (c .before .before .before .before .before .number-at .ensures);
+      of-vy = read-result w64 (c .before .before .before .before .number-at2 .ok) (c .before .before .before .before .number-at2 .ensures);
+      of-bxx = read-result w64 (c .before .before .before .number-at3 .ok) (c .before .before .before .number-at3 .ensures);
+      of-bxy = read-result w64 (c .before .before .number-at4 .ok) (c .before .before .number-at4 .ensures);
+      of-byx = read-result w64 (c .before .number-at5 .ok) (c .before .number-at5 .ensures);
+      of-byy = read-result w64 (c .number-at6 .ok) (c .number-at6 .ensures);
+    }
 
 mul-at : tie.Need-mul-at
 mul-at c = search needs
 
-add-m : tie.Need-add-m
-add-m c = search needs
-
-mul-m : tie.Need-mul-m
-mul-m c = search needs
-
-shared-slice-copy-out-m : tie.Need-shared-slice-copy-out-m
-shared-slice-copy-out-m c = index-below (c .before .pre) 1 (omega arith)
+natural-at-requires : tie.Need-natural-at-requires
+natural-at-requires c κs = mass-at (some (c .before) .holds)
 
 cast-m : tie.Need-cast-m
-cast-m c = m-cast (c .before .before .pre)
+cast-m c = search needs
 
-add-x : tie.Need-add-x
-add-x c = search needs
+add-natural-at : tie.Need-add-natural-at
+add-natural-at c = search needs
 
-mul-x : tie.Need-mul-x
-mul-x c = search needs
-
-shared-slice-copy-out-x : tie.Need-shared-slice-copy-out-x
-shared-slice-copy-out-x c = index-below (c .before .before .pre) 2 (omega arith)
+natural-at-requires-2 : tie.Need-natural-at-requires-2
+natural-at-requires-2 c κs = x-at (some (c .before .before) .holds)
 
 cast-x : tie.Need-cast-x
-cast-x c = x-cast (c .before .before .before .pre)
+cast-x c = search needs
 
-add-y : tie.Need-add-y
-add-y c = search needs
+add-natural-at-2 : tie.Need-add-natural-at-2
+add-natural-at-2 c = search needs
 
-mul-y : tie.Need-mul-y
-mul-y c = search needs
-
-shared-slice-copy-out-y : tie.Need-shared-slice-copy-out-y
-shared-slice-copy-out-y c = index-below (c .before .before .before .pre) 3 (omega arith)
+natural-at-requires-3 : tie.Need-natural-at-requires-3
+natural-at-requires-3 c κs = y-at (some (c .before .before .before) .holds)
 
 cast-y : tie.Need-cast-y
-cast-y c = y-cast (c .before .before .before .before .pre)
+cast-y c = search needs
 
-add-vx : tie.Need-add-vx
-add-vx c = search needs
+add-number-at : tie.Need-add-number-at
+add-number-at c = search needs
 
-mul-vx : tie.Need-mul-vx
-mul-vx c = search needs
+number-at-requires : tie.Need-number-at-requires
+number-at-requires c κs = search needs
 
-shared-slice-copy-out-vx : tie.Need-shared-slice-copy-out-vx
-shared-slice-copy-out-vx c = index-below (c .before .before .before .before .pre) 4 (omega arith)
+add-number-at-2 : tie.Need-add-number-at-2
+add-number-at-2 c = search needs
 
-add-vy : tie.Need-add-vy
-add-vy c = search needs
+number-at-requires-2 : tie.Need-number-at-requires-2
+number-at-requires-2 c κs = search needs
 
-mul-vy : tie.Need-mul-vy
-mul-vy c = search needs
+add-number-at-3 : tie.Need-add-number-at-3
+add-number-at-3 c = search needs
 
-shared-slice-copy-out-vy : tie.Need-shared-slice-copy-out-vy
-shared-slice-copy-out-vy c = index-below (c .before .before .before .before .before .pre) 5 (omega arith)
+number-at-requires-3 : tie.Need-number-at-requires-3
+number-at-requires-3 c κs = search needs
 
-add-bxx : tie.Need-add-bxx
-add-bxx c = search needs
+add-number-at-4 : tie.Need-add-number-at-4
+add-number-at-4 c = search needs
 
-mul-bxx : tie.Need-mul-bxx
-mul-bxx c = search needs
+number-at-requires-4 : tie.Need-number-at-requires-4
+number-at-requires-4 c κs = search needs
 
-shared-slice-copy-out-bxx : tie.Need-shared-slice-copy-out-bxx
-shared-slice-copy-out-bxx c = index-below (c .before .before .before .before .before .before .pre) 6 (omega arith)
+add-number-at-5 : tie.Need-add-number-at-5
+add-number-at-5 c = search needs
 
-add-bxy : tie.Need-add-bxy
-add-bxy c = search needs
+number-at-requires-5 : tie.Need-number-at-requires-5
+number-at-requires-5 c κs = search needs
 
-mul-bxy : tie.Need-mul-bxy
-mul-bxy c = search needs
+add-number-at-6 : tie.Need-add-number-at-6
+add-number-at-6 c = search needs
 
-shared-slice-copy-out-bxy : tie.Need-shared-slice-copy-out-bxy
-shared-slice-copy-out-bxy c = index-below (c .before .before .before .before .before .before .before .pre) 7 (omega arith)
-
-add-byx : tie.Need-add-byx
-add-byx c = search needs
-
-mul-byx : tie.Need-mul-byx
-mul-byx c = search needs
-
-shared-slice-copy-out-byx : tie.Need-shared-slice-copy-out-byx
-shared-slice-copy-out-byx c = index-below (c .before .before .before .before .before .before .before .before .pre) 8 (omega arith)
-
-add-byy : tie.Need-add-byy
-add-byy c = search needs
-
-mul-byy : tie.Need-mul-byy
-mul-byy c = search needs
-
-shared-slice-copy-out-byy : tie.Need-shared-slice-copy-out-byy
-shared-slice-copy-out-byy c = index-below (c .before .before .before .before .before .before .before .before .before .pre) 9 (omega arith)
+number-at-requires-6 : tie.Need-number-at-requires-6
+number-at-requires-6 c κs = search needs
 
 add-particle-requires : tie.Need-add-particle-requires
-add-particle-requires c κs = nth-asked (c .before .before .before .before .before .before .before .before .before .before .before .before .before .pre)
+add-particle-requires c κs = nth-asked (all-read (c .before .before .before)) (some (c .before .before .before .before .before .before .before .before .before .before .before .before .before) .holds) (c .before .before .before .before .before .before .before .before .before .before .before .before .before .pre)
 
 same-length : tie.Need-same-length
 same-length c = search needs
@@ -111,44 +103,33 @@ same-length-3 : tie.Need-same-length-3
 same-length-3 c = search needs
 
 returns : tie.Need-returns
-returns c =
-    nth-added (c .before .before .before .before .before .before .before .before .before .before .before .before .before .before .before .before .before .before .pre) (c .before .before .before .before .add-particle .ensures)
+returns c p h = nth-added (all-read (c .before .before .before .before .before .before .before .before)) h (c .before .before .before .before .add-particle .ensures)
 
 pub add-nth-spec : {M : Type 1} → statement M
 add-nth-spec =
     tie.close
     (tie.spec
     mul-at
-    add-m
-    mul-m
-    shared-slice-copy-out-m
+    natural-at-requires
     cast-m
-    add-x
-    mul-x
-    shared-slice-copy-out-x
+    add-natural-at
+    natural-at-requires-2
     cast-x
-    add-y
-    mul-y
-    shared-slice-copy-out-y
+    add-natural-at-2
+    natural-at-requires-3
     cast-y
-    add-vx
-    mul-vx
-    shared-slice-copy-out-vx
-    add-vy
-    mul-vy
-    shared-slice-copy-out-vy
-    add-bxx
-    mul-bxx
-    shared-slice-copy-out-bxx
-    add-bxy
-    mul-bxy
-    shared-slice-copy-out-bxy
-    add-byx
-    mul-byx
-    shared-slice-copy-out-byx
-    add-byy
-    mul-byy
-    shared-slice-copy-out-byy
+    add-number-at
+    number-at-requires
+    add-number-at-2
+    number-at-requires-2
+    add-number-at-3
+    number-at-requires-3
+    add-number-at-4
+    number-at-requires-4
+    add-number-at-5
+    number-at-requires-5
+    add-number-at-6
+    number-at-requires-6
     add-particle-requires
     same-length
     same-length-2

@@ -28,10 +28,10 @@ same-length-3 : tie.Need-same-length-3
 same-length-3 c = search needs
 
 returns : tie.Need-returns
-returns c =
+returns c ps s =
     let a = c .before .before .before .before .before .before .before .before .before .before .before .before .before .before .before .before .before .before .before .args in
     scattered (a .mass .now) (a .px .now) (a .py .now) (c .before .before .before .before .before .before .before .before .before .before .before .before .before .before .before .before .clear-masses .ensures) (c .before .before .before .before .before .before .before .before .before .before .before .before .clear .ensures) (c .before .before .before .before .before .before .before .before .before .clear2 .ensures)
-    (c .before .before .before .before .add-all .ensures)
+    (c .before .before .before .before .add-all .ensures ps s)
 
 pub scatter-all-spec : {M : Type 1} → statement M
 scatter-all-spec =

@@ -1,5 +1,6 @@
 -- `scatter_particle::add_particle` meets its contract: the particle's cell and numbers, and the block around it.
 -- Assumes nothing.
+use Prim.Native.Nat.{_≤_}
 use native.Mathlib.Omega.{arith}
 use borrow.Author.Needs.{needs}
 use Rattle.spline.specs.Spline.{nearestNode}
@@ -7,23 +8,23 @@ use Rattle.scatter_particle.proofs.Particles.{axis-small, x-touched, y-
 use Rattle.scatter_particle.proofs.add_particle.Statement.{statement}
 use Rattle.scatter_particle.proofs.add_particle.Tie as tie
 
-add-row : tie.Need-add-row
-add-row c = omega (arith, axis-small (c .before .args .nx) (c .before .args .x) (c .before .pre .sizes .x-most) (c .before .pre .limits .x-on))
+x-small : (c : tie.Start) → c .args .x ≤ 4095
+x-small c = axis-small (c .args .nx) (c .args .x) (c .pre .sizes .x-most) (c .pre .limits .x-on)
 
-row-requires : tie.Need-row-requires
-row-requires c κs = search needs
+y-small : (c : tie.Start) → c .args .y ≤ 4095
+y-small c = axis-small (c .args .ny) (c .args .y) (c .pre .sizes .y-most) (c .pre .limits .y-on)
 
-add-row-2 : tie.Need-add-row-2
-add-row-2 c = omega (arith, axis-small (c .before .before .args .ny) (c .before .before .args .y) (c .before .before .pre .sizes .y-most) (c .before .before .pre .limits .y-on))
+weights-at-requires : tie.Need-weights-at-requires
+weights-at-requires c κs = x-small (c .before)
 
-row-requires-2 : tie.Need-row-requires-2
-row-requires-2 c κs = search needs
+weights-at-requires-2 : tie.Need-weights-at-requires-2
+weights-at-requires-2 c κs = y-small (c .before .before)
 
 middle-requires : tie.Need-middle-requires
-middle-requires c κs = axis-small (c .before .before .before .args .nx) (c .before .before .before .args .x) (c .before .before .before .pre .sizes .x-most) (c .before .before .before .pre .limits .x-on)
+middle-requires c κs = x-small (c .before .before .before)
 
 middle-requires-2 : tie.Need-middle-requires-2
-middle-requires-2 c κs = axis-small (c .before .before .before .before .args .ny) (c .before .before .before .before .args .y) (c .before .before .before .before .pre .sizes .y-most) (c .before .before .before .before .pre .limits .y-on)
+middle-requires-2 c κs = y-small (c .before .before .before .before)
 
 speed-requires : tie.Need-speed-requires
 speed-requires c κs = search needs
@@ -32,18 +33,22 @@ speed-requires-2 : tie.Need-speed-requires-2
 speed-requires-2 c κs = search needs
 
 add-k : tie.Need-add-k
-add-k c = omega (arith, axis-small (c .before .before .before .before .before .before .before .args .ny) (c .before .before .before .before .before .before .before .args .y) (c .before .before .before .before .before .before .before .pre .sizes .y-most) (c .before .before .before .before .before .before .before .pre .limits .y-on))
+add-k c = omega (arith, y-small (c .before .before .before .before .before .before .before))
 
 mul-k : tie.Need-mul-k
 unfolding nearestNode
-mul-k c = omega (arith, cell-below (c .before .before .before .before .before .before .before .pre .sizes) (x-touched (c .before .before .before .before .before .before .before .pre)) (y-touched (c .before .before .before .before .before .before .before .pre)))
+mul-k c =
+    let ready = c .before .before .before .before .before .before .before .pre in
+    omega (arith, cell-below (ready .sizes) (x-touched ready) (y-touched ready))
 
 add-k-2 : tie.Need-add-k-2
-add-k-2 c = omega (arith, axis-small (c .before .before .before .before .before .before .before .args .nx) (c .before .before .before .before .before .before .before .args .x) (c .before .before .before .before .before .before .before .pre .sizes .x-most) (c .before .before .before .before .before .before .before .pre .limits .x-on))
+add-k-2 c = omega (arith, x-small (c .before .before .before .before .before .before .before))
 
 add-k-3 : tie.Need-add-k-3
 unfolding nearestNode
-add-k-3 c = omega (arith, cell-below (c .before .before .before .before .before .before .before .pre .sizes) (x-touched (c .before .before .before .before .before .before .before .pre)) (y-touched (c .before .before .before .before .before .before .before .pre)))
+add-k-3 c =
+    let ready = c .before .before .before .before .before .before .before .pre in
+    omega (arith, cell-below (ready .sizes) (x-touched ready) (y-touched ready))
 
 spread-requires : tie.Need-spread-requires
 spread-requires c κs = search needs
@@ -60,17 +65,17 @@ spread-requires-4 c κs = search needs
 add-block-requires : tie.Need-add-block-requires
 unfolding nearestNode
 add-block-requires c κs =
-    block-ready (c .before .before .before .before .before .before .before .before .before .before .before .before .before .before .pre)
-    (c .before .before .before .before .before .before .before .before .before .before .before .before .row .ensures)
-    (c .before .before .before .before .before .before .before .before .before .before .before .row2 .ensures)
-    (c .before .before .before .before .before .before .before .before .before .before .middle .ensures)
-    (c .before .before .before .before .before .before .before .before .before .middle2 .ensures)
-    (c .before .before .before .before .before .before .before .before .speed .ensures)
-    (c .before .before .before .before .before .before .before .speed2 .ensures)
-    (c .before .before .before .spread .ensures)
-    (c .before .before .spread2 .ensures)
-    (c .before .spread3 .ensures)
-    (c .spread4 .ensures)
+    let yx = c .before in
+    let xy = yx .before in
+    let xx = xy .before in
+    let sy = xx .before .before .before .before in
+    let sx = sy .before in
+    let dy = sx .before in
+    let dx = dy .before in
+    let wy = dx .before in
+    let wx = wy .before in
+    block-ready (wx .before .before .pre) (wx .weights-at .ensures) (wy .weights-at2 .ensures) (dx .middle .ensures) (dy .middle2 .ensures)
+    (sx .speed .ensures) (sy .speed2 .ensures) (xx .spread .ensures) (xy .spread2 .ensures) (yx .spread3 .ensures) (c .spread4 .ensures)
 
 same-length : tie.Need-same-length
 same-length c = search needs
@@ -84,27 +89,27 @@ same-length-3 c = search needs
 returns : tie.Need-returns
 unfolding nearestNode
 returns c =
-    particle-added (c .before .before .before .before .before .before .before .before .before .before .before .before .before .before .before .before .before .before .before .pre)
-    (c .before .before .before .before .before .before .before .before .before .before .before .before .before .before .before .before .before .row .ensures)
-    (c .before .before .before .before .before .before .before .before .before .before .before .before .before .before .before .before .row2 .ensures)
-    (c .before .before .before .before .before .before .before .before .before .before .before .before .before .before .before .middle .ensures)
-    (c .before .before .before .before .before .before .before .before .before .before .before .before .before .before .middle2 .ensures)
-    (c .before .before .before .before .before .before .before .before .before .before .before .before .before .speed .ensures)
-    (c .before .before .before .before .before .before .before .before .before .before .before .before .speed2 .ensures)
-    (c .before .before .before .before .before .before .before .before .spread .ensures)
-    (c .before .before .before .before .before .before .before .spread2 .ensures)
-    (c .before .before .before .before .before .before .spread3 .ensures)
-    (c .before .before .before .before .before .spread4 .ensures)
-    (c .before .before .before .before .add-block .ensures)
+    let block = c .before .before .before .before in
+    let yy = block .before in
+    let yx = yy .before in
+    let xy = yx .before in
+    let xx = xy .before in
+    let sy = xx .before .before .before .before in
+    let sx = sy .before in
+    let dy = sx .before in
+    let dx = dy .before in
+    let wy = dx .before in
+    let wx = wy .before in
+    particle-added (wx .before .before .pre) (wx .weights-at .ensures) (wy .weights-at2 .ensures) (dx .middle .ensures) (dy .middle2 .ensures)
+    (sx .speed .ensures) (sy .speed2 .ensures) (xx .spread .ensures) (xy .spread2 .ensures) (yx .spread3 .ensures) (yy .spread4 .ensures)
+    (block .add-block .ensures)
 
 pub add-particle-spec : {M : Type 1} → statement M
 add-particle-spec =
     tie.close
     (tie.spec
-    add-row
-    row-requires
-    add-row-2
-    row-requires-2
+    weights-at-requires
+    weights-at-requires-2
     middle-requires
     middle-requires-2
     speed-requires

@@ -1,7 +1,11 @@
 -- `scatter_particle::speed` meets its contract. Assumes nothing.
+use borrow.Author.Needs.{needs}
 use Rattle.scatter_particle.proofs.Numbers.{speed-facts}
 use Rattle.scatter_particle.proofs.speed.Statement.{statement}
 use Rattle.scatter_particle.proofs.speed.Tie as tie
+
+cast-result : tie.Need-cast-result
+cast-result c = search needs
 
 mul-result : tie.Need-mul-result
 mul-result c = speed-facts (c .pre) .v-fits
@@ -22,4 +26,4 @@ returns : tie.Need-returns
 returns c = speed-facts (c .pre) .is
 
 pub speed-spec : {M : Type 1} → statement M
-speed-spec = tie.close (tie.spec mul-result mul-result-2 add-result mul-result-3 add-result-2 returns)
+speed-spec = tie.close (tie.spec cast-result mul-result mul-result-2 add-result mul-result-3 add-result-2 returns)

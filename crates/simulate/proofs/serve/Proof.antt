@@ -2,8 +2,8 @@
 use mathlib.Core.Path.{subst}
 use Rattle.io.specs.Counts.{Counts}
 use Rattle.program.proofs.Files.{text-within}
-use Rattle.simulate.specs.Streams.{ReadWithin}
-use Rattle.simulate.specs.declared.streams.Input.{Input}
+use Rattle.streams.specs.Streams.{ReadWithin}
+use Rattle.streams.specs.declared.Input.{Input}
 use borrow.Author.Needs.{needs}
 use Rattle.simulate.proofs.serve.Statement.{statement}
 use Rattle.simulate.proofs.serve.Tie as tie

@@ -13,8 +13,7 @@ use mir.Val.{SFits, toZ, ofZ}
 use mir.Facts.{toZ-ofZ}
 use borrow.Author.Needs.{needs, sfits-of}
 use borrow.Author.Tests.{not-false}
-use Rattle.refusal.specs.Refused.{Answer}
-use Rattle.update.specs.Checks.{forEach, done}
+use Rattle.refusal.specs.Refused.{Answer, done, forEach}
 use Rattle.update.specs.Update.{checkNode, checkNodeAt, checkNodes, toldUpdate}
 use Rattle.update.specs.Internal.{isCalm}
 use Rattle.update.proofs.Walk.{walk-start, walk-on, walk-ends, each-end}

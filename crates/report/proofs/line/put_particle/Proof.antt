@@ -1,72 +1,86 @@
--- `put_particle` meets its contract: the line is its pieces. Assumes nothing.
-use mathlib.Core.Path.{sym, ap₂, _∙_}
-use mathlib.Core.List.{_++_}
-use mir.Syntax.{w16}
+-- `put_particle` meets its contract: the line is its numbers, one behind the other. Assumes nothing.
+use borrow.Author.Needs.{needs, sfits-of}
+use Prim.Native.Nat.{_^_, _<_}
+use mathlib.Core.Path.{_≡_, sym, ap, _∙_}
+use mathlib.Core.List.{List}
+use lib.IntN.{ℤ, pos}
+use lib.ListN.{length, getD, take}
+use lib.Signed.{mag}
+use mir.Syntax.{w64}
+use mir.Val.{toZ, ofZ, hbits}
 use mir.Facts.{toZ-ofZ}
-use Rattle.report.specs.Internal.{naturalsText, integersText}
-use Rattle.report.proofs.Puts.{put-length, put-then, room-first, room-second}
-use Rattle.report.proofs.Texts.{room-as, put-as, particle-text}
+use Rattle.particle.specs.declared.Particle.{Particle}
+use Rattle.particle.specs.Record.{numbers}
+use Rattle.text.specs.Decimal.{lineFeed}
+use Rattle.text.specs.Internal.{integerText, spacedText}
+use Rattle.text.proofs.Puts.{put-then, room-first, room-second}
+use Rattle.text.proofs.Texts.{room-as, put-as}
+use Rattle.report.proofs.Texts.{lastNumber, particle-text}
 use Rattle.report.proofs.line.put_particle.Statement.{statement}
 use Rattle.report.proofs.line.put_particle.Tie as tie
 
-put-naturals-requires : tie.Need-put-naturals-requires
-put-naturals-requires c κs =
-    let a = c .before .before .args in
-    let whole = room-as (particle-text (a .p)) (c .before .before .pre) in
-    room-first (naturalsText (a .p .identifier) (a .p .mass)) ((naturalsText (a .p .x) (a .p .y)) ++ ((integersText (a .p .vx) (a .p .vy) 32) ++ ((integersText (a .p .bxx) (a .p .bxy) 32) ++ (integersText (a .p .byx) (a .p .byy) 10)))) whole
+-- the last number's text
+last-is : {p : Particle} {l : List ℤ} → l ≡ numbers p → mag (getD l lastNumber (pos 0)) < 2 ^ hbits w64 → integerText (toZ w64 (ofZ w64 (getD l lastNumber (pos 0)))) lineFeed ≡ integerText (p .byy) lineFeed
+last-is e h = ap (λ z. integerText z lineFeed) (toZ-ofZ (sfits-of h) ∙ ap (λ l. getD l lastNumber (pos 0)) e)
 
-put-naturals-requires-2 : tie.Need-put-naturals-requires-2
-put-naturals-requires-2 c κs =
-    let a = c .before .before .before .before .before .before .args in
-    let whole = room-as (particle-text (a .p)) (c .before .before .before .before .before .before .pre) in
-    let left1 = room-second (naturalsText (a .p .identifier) (a .p .mass)) ((naturalsText (a .p .x) (a .p .y)) ++ ((integersText (a .p .vx) (a .p .vy) 32) ++ ((integersText (a .p .bxx) (a .p .bxy) 32) ++ (integersText (a .p .byx) (a .p .byy) 10)))) whole (c .before .before .before .put-naturals .ensures) in
-    room-first (naturalsText (a .p .x) (a .p .y)) ((integersText (a .p .vx) (a .p .vy) 32) ++ ((integersText (a .p .bxx) (a .p .bxy) 32) ++ (integersText (a .p .byx) (a .p .byy) 10))) left1
+numbers-of-requires : tie.Need-numbers-of-requires
+numbers-of-requires c κs = search needs
 
-put-integers-requires : tie.Need-put-integers-requires
-put-integers-requires c κs =
-    let a = c .before .before .before .before .before .before .before .before .before .before .before .before .args in
-    let whole = room-as (particle-text (a .p)) (c .before .before .before .before .before .before .before .before .before .before .before .before .pre) in
-    let left1 = room-second (naturalsText (a .p .identifier) (a .p .mass)) ((naturalsText (a .p .x) (a .p .y)) ++ ((integersText (a .p .vx) (a .p .vy) 32) ++ ((integersText (a .p .bxx) (a .p .bxy) 32) ++ (integersText (a .p .byx) (a .p .byy) 10)))) whole (c .before .before .before .before .before .before .before .before .before .put-naturals .ensures) in
-    let left2 = room-second (naturalsText (a .p .x) (a .p .y)) ((integersText (a .p .vx) (a .p .vy) 32) ++ ((integersText (a .p .bxx) (a .p .bxy) 32) ++ (integersText (a .p .byx) (a .p .byy) 10))) left1 (c .before .before .before .before .before .put-naturals2 .ensures) in
-    room-as (sym (ap₂ (λ x y. integersText x y 32) (toZ-ofZ {w = w16} {z = a .p .vx} (record { sfits = c .before .struct-told .given .1 .1 .1 .1 .0 .1 })) (toZ-ofZ {w = w16} {z = a .p .vy} (record { sfits = c .before .struct-told .given .1 .1 .1 .1 .1 .0 .1 })))) (room-first (integersText (a .p .vx) (a .p .vy) 32) ((integersText (a .p .bxx) (a .p .bxy) 32) ++ (integersText (a .p .byx) (a .p .byy) 10)) left2)
+sub-numbers : tie.Need-sub-numbers
+sub-numbers c = search needs
 
-put-integers-requires-2 : tie.Need-put-integers-requires-2
-put-integers-requires-2 c κs =
-    let a = c .before .before .before .before .before .before .before .before .before .before .before .before .before .before .before .before .before .before .args in
-    let whole = room-as (particle-text (a .p)) (c .before .before .before .before .before .before .before .before .before .before .before .before .before .before .before .before .before .before .pre) in
-    let left1 = room-second (naturalsText (a .p .identifier) (a .p .mass)) ((naturalsText (a .p .x) (a .p .y)) ++ ((integersText (a .p .vx) (a .p .vy) 32) ++ ((integersText (a .p .bxx) (a .p .bxy) 32) ++ (integersText (a .p .byx) (a .p .byy) 10)))) whole (c .before .before .before .before .before .before .before .before .before .before .before .before .before .before .before .put-naturals .ensures) in
-    let left2 = room-second (naturalsText (a .p .x) (a .p .y)) ((integersText (a .p .vx) (a .p .vy) 32) ++ ((integersText (a .p .bxx) (a .p .bxy) 32) ++ (integersText (a .p .byx) (a .p .byy) 10))) left1 (c .before .before .before .before .before .before .before .before .before .before .before .put-naturals2 .ensures) in
-    let left3 = room-second (integersText (a .p .vx) (a .p .vy) 32) ((integersText (a .p .bxx) (a .p .bxy) 32) ++ (integersText (a .p .byx) (a .p .byy) 10)) left2 (put-as (ap₂ (λ x y. integersText x y 32) (toZ-ofZ {w = w16} {z = a .p .vx} (record { sfits = c .before .before .before .before .before .before .before .struct-told .given .1 .1 .1 .1 .0 .1 })) (toZ-ofZ {w = w16} {z = a .p .vy} (record { sfits = c .before .before .before .before .before .before .before .struct-told .given .1 .1 .1 .1 .1 .0 .1 }))) (c .before .before .before .before .before .put-integers .ensures)) in
-    room-as (sym (ap₂ (λ x y. integersText x y 32) (toZ-ofZ {w = w16} {z = a .p .bxx} (record { sfits = c .before .before .before .before .before .before .before .struct-told .given .1 .1 .1 .1 .1 .1 .0 .1 })) (toZ-ofZ {w = w16} {z = a .p .bxy} (record { sfits = c .before .before .before .before .before .before .before .struct-told .given .1 .1 .1 .1 .1 .1 .1 .0 .1 })))) (room-first (integersText (a .p .bxx) (a .p .bxy) 32) (integersText (a .p .byx) (a .p .byy) 10) left3)
+array-share-prefix-numbers : tie.Need-array-share-prefix-numbers
+array-share-prefix-numbers c = search needs
 
-put-integers-requires-3 : tie.Need-put-integers-requires-3
-put-integers-requires-3 c κs =
-    let a = c .before .before .before .before .before .before .before .before .before .before .before .before .before .before .before .before .before .before .before .before .before .before .before .before .args in
-    let whole = room-as (particle-text (a .p)) (c .before .before .before .before .before .before .before .before .before .before .before .before .before .before .before .before .before .before .before .before .before .before .before .before .pre) in
-    let left1 = room-second (naturalsText (a .p .identifier) (a .p .mass)) ((naturalsText (a .p .x) (a .p .y)) ++ ((integersText (a .p .vx) (a .p .vy) 32) ++ ((integersText (a .p .bxx) (a .p .bxy) 32) ++ (integersText (a .p .byx) (a .p .byy) 10)))) whole (c .before .before .before .before .before .before .before .before .before .before .before .before .before .before .before .before .before .before .before .before .before .put-naturals .ensures) in
-    let left2 = room-second (naturalsText (a .p .x) (a .p .y)) ((integersText (a .p .vx) (a .p .vy) 32) ++ ((integersText (a .p .bxx) (a .p .bxy) 32) ++ (integersText (a .p .byx) (a .p .byy) 10))) left1 (c .before .before .before .before .before .before .before .before .before .before .before .before .before .before .before .before .before .put-naturals2 .ensures) in
-    let left3 = room-second (integersText (a .p .vx) (a .p .vy) 32) ((integersText (a .p .bxx) (a .p .bxy) 32) ++ (integersText (a .p .byx) (a .p .byy) 10)) left2 (put-as (ap₂ (λ x y. integersText x y 32) (toZ-ofZ {w = w16} {z = a .p .vx} (record { sfits = c .before .before .before .before .before .before .before .before .before .before .before .before .before .struct-told .given .1 .1 .1 .1 .0 .1 })) (toZ-ofZ {w = w16} {z = a .p .vy} (record { sfits = c .before .before .before .before .before .before .before .before .before .before .before .before .before .struct-told .given .1 .1 .1 .1 .1 .0 .1 }))) (c .before .before .before .before .before .before .before .before .before .before .before .put-integers .ensures)) in
-    let left4 = room-second (integersText (a .p .bxx) (a .p .bxy) 32) (integersText (a .p .byx) (a .p .byy) 10) left3 (put-as (ap₂ (λ x y. integersText x y 32) (toZ-ofZ {w = w16} {z = a .p .bxx} (record { sfits = c .before .before .before .before .before .before .before .before .before .before .before .before .before .struct-told .given .1 .1 .1 .1 .1 .1 .0 .1 })) (toZ-ofZ {w = w16} {z = a .p .bxy} (record { sfits = c .before .before .before .before .before .before .before .before .before .before .before .before .before .struct-told .given .1 .1 .1 .1 .1 .1 .1 .0 .1 }))) (c .before .before .before .before .before .put-integers2 .ensures)) in
-    room-as (sym (ap₂ (λ x y. integersText x y 10) (toZ-ofZ {w = w16} {z = a .p .byx} (record { sfits = c .before .before .before .before .before .before .before .before .before .before .before .before .before .struct-told .given .1 .1 .1 .1 .1 .1 .1 .1 .0 .1 })) (toZ-ofZ {w = w16} {z = a .p .byy} (record { sfits = c .before .before .before .before .before .before .before .before .before .before .before .before .before .struct-told .given .1 .1 .1 .1 .1 .1 .1 .1 .1 .0 .1 })))) (left4)
+slice-aggregate-put-spaced : tie.Need-slice-aggregate-put-spaced
+slice-aggregate-put-spaced c = ap (λ l. length (take lastNumber l)) (sym (c .before .before .numbers-of .ensures))
+
+put-spaced-requires : tie.Need-put-spaced-requires
+put-spaced-requires c κs =
+    let s = c .before .before .before .before in
+    room-as (ap (λ l. spacedText (take lastNumber l)) (sym (c .before .before .numbers-of .ensures)))
+    (room-first (spacedText (take lastNumber (numbers (s .args .p)))) (integerText (s .args .p .byy) lineFeed) (room-as (particle-text (s .args .p)) (s .pre)))
+
+sub-put-integer : tie.Need-sub-put-integer
+sub-put-integer c = search needs
+
+mul-put-integer : tie.Need-mul-put-integer
+mul-put-integer c = search needs
+
+array-copy-out-put-integer : tie.Need-array-copy-out-put-integer
+array-copy-out-put-integer c = search needs
+
+put-integer-requires : tie.Need-put-integer-requires
+put-integer-requires c κs =
+    let s = c .before .before .before .before .before .before .before .before .before in
+    room-as (sym (last-is (c .before .before .before .before .before .before .before .numbers-of .ensures) (c .put-integer-arg2 .given)))
+    (room-second (spacedText (take lastNumber (numbers (s .args .p)))) (integerText (s .args .p .byy) lineFeed) (room-as (particle-text (s .args .p)) (s .pre))
+    (put-as (ap (λ l. spacedText (take lastNumber l)) (c .before .before .before .before .before .before .before .numbers-of .ensures)) (c .before .before .before .before .put-spaced .ensures)))
 
 same-length : tie.Need-same-length
-same-length c =
-    let a = c .before .before .before .before .before .before .before .before .before .before .before .before .before .before .before .before .before .before .before .before .before .before .before .before .before .before .before .args in
-    put-length (put-as (ap₂ (λ x y. integersText x y 10) (toZ-ofZ {w = w16} {z = a .p .byx} (record { sfits = c .before .before .before .before .before .before .before .before .before .before .before .before .before .before .before .before .struct-told .given .1 .1 .1 .1 .1 .1 .1 .1 .0 .1 })) (toZ-ofZ {w = w16} {z = a .p .byy} (record { sfits = c .before .before .before .before .before .before .before .before .before .before .before .before .before .before .before .before .struct-told .given .1 .1 .1 .1 .1 .1 .1 .1 .1 .0 .1 }))) (c .before .before .put-integers3 .ensures)) ∙ put-length (put-as (ap₂ (λ x y. integersText x y 32) (toZ-ofZ {w = w16} {z = a .p .bxx} (record { sfits = c .before .before .before .before .before .before .before .before .before .before .before .before .before .before .before .before .struct-told .given .1 .1 .1 .1 .1 .1 .0 .1 })) (toZ-ofZ {w = w16} {z = a .p .bxy} (record { sfits = c .before .before .before .before .before .before .before .before .before .before .before .before .before .before .before .before .struct-told .given .1 .1 .1 .1 .1 .1 .1 .0 .1 }))) (c .before .before .before .before .before .before .before .before .put-integers2 .ensures)) ∙ put-length (put-as (ap₂ (λ x y. integersText x y 32) (toZ-ofZ {w = w16} {z = a .p .vx} (record { sfits = c .before .before .before .before .before .before .before .before .before .before .before .before .before .before .before .before .struct-told .given .1 .1 .1 .1 .0 .1 })) (toZ-ofZ {w = w16} {z = a .p .vy} (record { sfits = c .before .before .before .before .before .before .before .before .before .before .before .before .before .before .before .before .struct-told .given .1 .1 .1 .1 .1 .0 .1 }))) (c .before .before .before .before .before .before .before .before .before .before .before .before .before .before .put-integers .ensures)) ∙ put-length (c .before .before .before .before .before .before .before .before .before .before .before .before .before .before .before .before .before .before .before .before .put-naturals2 .ensures) ∙ put-length (c .before .before .before .before .before .before .before .before .before .before .before .before .before .before .before .before .before .before .before .before .before .before .before .before .put-naturals .ensures)
+same-length c = search needs
 
 returns : tie.Need-returns
 returns c =
-    let a = c .before .before .before .before .before .before .before .before .before .before .before .before .before .before .before .before .before .before .before .before .before .before .before .before .before .before .before .args in
-    put-as (sym (particle-text (a .p))) (put-then (c .before .before .before .before .before .before .before .before .before .before .before .before .before .before .before .before .before .before .before .before .before .before .before .before .put-naturals .ensures) (put-then (c .before .before .before .before .before .before .before .before .before .before .before .before .before .before .before .before .before .before .before .before .put-naturals2 .ensures) (put-then (put-as (ap₂ (λ x y. integersText x y 32) (toZ-ofZ {w = w16} {z = a .p .vx} (record { sfits = c .before .before .before .before .before .before .before .before .before .before .before .before .before .before .before .before .struct-told .given .1 .1 .1 .1 .0 .1 })) (toZ-ofZ {w = w16} {z = a .p .vy} (record { sfits = c .before .before .before .before .before .before .before .before .before .before .before .before .before .before .before .before .struct-told .given .1 .1 .1 .1 .1 .0 .1 }))) (c .before .before .before .before .before .before .before .before .before .before .before .before .before .before .put-integers .ensures)) (put-then (put-as (ap₂ (λ x y. integersText x y 32) (toZ-ofZ {w = w16} {z = a .p .bxx} (record { sfits = c .before .before .before .before .before .before .before .before .before .before .before .before .before .before .before .before .struct-told .given .1 .1 .1 .1 .1 .1 .0 .1 })) (toZ-ofZ {w = w16} {z = a .p .bxy} (record { sfits = c .before .before .before .before .before .before .before .before .before .before .before .before .before .before .before .before .struct-told .given .1 .1 .1 .1 .1 .1 .1 .0 .1 }))) (c .before .before .before .before .before .before .before .before .put-integers2 .ensures)) (put-as (ap₂ (λ x y. integersText x y 10) (toZ-ofZ {w = w16} {z = a .p .byx} (record { sfits = c .before .before .before .before .before .before .before .before .before .before .before .before .before .before .before .before .struct-told .given .1 .1 .1 .1 .1 .1 .1 .1 .0 .1 })) (toZ-ofZ {w = w16} {z = a .p .byy} (record { sfits = c .before .before .before .before .before .before .before .before .before .before .before .before .before .before .before .before .struct-told .given .1 .1 .1 .1 .1 .1 .1 .1 .1 .0 .1 }))) (c .before .before .put-integers3 .ensures))))))
+    let s = c .before .before .before .before .before .before .before .before .before .before .before .before in
+    let is = c .before .before .before .before .before .before .before .before .before .before .numbers-of .ensures in
+    put-as (sym (particle-text (s .args .p)))
+    (put-then
+    (put-as (ap (λ l. spacedText (take lastNumber l)) is) (c .before .before .before .before .before .before .before .put-spaced .ensures))
+    (put-as (last-is is (c .before .before .before .put-integer-arg2 .given)) (c .before .before .put-integer .ensures)))
 
 pub put-particle-spec : {M : Type 1} → statement M
 put-particle-spec =
     tie.close
     (tie.spec
-    put-naturals-requires
-    put-naturals-requires-2
-    put-integers-requires
-    put-integers-requires-2
-    put-integers-requires-3
+    numbers-of-requires
+    sub-numbers
+    array-share-prefix-numbers
+    slice-aggregate-put-spaced
+    put-spaced-requires
+    sub-put-integer
+    mul-put-integer
+    array-copy-out-put-integer
+    put-integer-requires
     same-length
     returns)

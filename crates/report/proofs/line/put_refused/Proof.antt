@@ -2,10 +2,11 @@
 use borrow.Author.Needs.{needs}
 use mathlib.Core.Path.{sym, _∙_}
 use mathlib.Core.List.{_++_}
-use Rattle.report.specs.Decimal.{bytesOf}
-use Rattle.report.specs.Internal.{naturalText}
-use Rattle.report.proofs.Puts.{put-length, put-then, room-first, room-second}
-use Rattle.report.proofs.Texts.{room-as, put-as, refused-text}
+use Rattle.text.specs.Decimal.{bytesOf}
+use Rattle.text.specs.Internal.{naturalText}
+use Rattle.text.proofs.Puts.{put-length, put-then, room-first, room-second}
+use Rattle.text.proofs.Texts.{room-as, put-as}
+use Rattle.report.proofs.Texts.{refused-text}
 use Rattle.report.proofs.line.put_refused.Statement.{statement}
 use Rattle.report.proofs.line.put_refused.Tie as tie
 

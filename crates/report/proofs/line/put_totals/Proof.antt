@@ -2,12 +2,13 @@
 use borrow.Author.Needs.{needs}
 use mathlib.Core.Path.{sym, ap, _∙_}
 use mathlib.Core.List.{_++_}
-use Rattle.report.specs.Decimal.{bytesOf}
+use Rattle.text.specs.Decimal.{bytesOf}
 use mir.Syntax.{w64}
 use mir.Facts.{toZ-ofZ}
-use Rattle.report.specs.Internal.{naturalText, integerText}
-use Rattle.report.proofs.Puts.{put-length, put-then, room-first, room-second}
-use Rattle.report.proofs.Texts.{room-as, put-as, totals-text}
+use Rattle.text.specs.Internal.{naturalText, integerText}
+use Rattle.text.proofs.Puts.{put-length, put-then, room-first, room-second}
+use Rattle.text.proofs.Texts.{room-as, put-as}
+use Rattle.report.proofs.Texts.{totals-text}
 use Rattle.report.proofs.line.put_totals.Statement.{statement}
 use Rattle.report.proofs.line.put_totals.Tie as tie
 

@@ -1,7 +1,7 @@
 -- `update::node::breaks_mass` meets its contract. Assumes nothing.
 use mathlib.Core.Path.{sym}
 use borrow.Author.Tests.{lt-ltb, le-ltb, eq-eqb, ne-eqb}
-use Rattle.update.proofs.Tests.{zero-bits}
+use Rattle.entry.proofs.Tests.{zero-bits}
 use Rattle.update.proofs.node.breaks_mass.Statement.{statement}
 use Rattle.update.proofs.node.breaks_mass.Tie as tie
 

@@ -8,7 +8,7 @@ use mir.Val.{SFits, toZ, ofZ}
 use mir.Facts.{toZ-ofZ}
 use borrow.Author.Needs.{needs, sfits-of}
 use borrow.Author.Tests.{not-true, not-false}
-use Rattle.update.specs.Checks.{bothWithin}
+use Rattle.entry.specs.Checks.{bothWithin}
 use Rattle.update.specs.Update.{velocityOf, breaksMass}
 use Rattle.update.proofs.Walk.{node-heavy, node-fast, node-passes, mass-most}
 use Rattle.update.proofs.node.check.Statement.{statement}

@@ -11,7 +11,7 @@ use borrow.Author.Needs.{needs}
 use borrow.Author.Tests.{le-leb, lt-leb}
 use Rattle.arith.specs.Machine.{same-fits, same-read}
 use Rattle.update.specs.Internal.{calmMomentum}
-use Rattle.update.proofs.Tests.{negative-fits, negative-is, below, above, not-below, inside}
+use Rattle.entry.proofs.Tests.{negative-fits, negative-is, below, above, not-below, inside}
 use Rattle.update.proofs.node.is_calm.Statement.{statement}
 use Rattle.update.proofs.node.is_calm.Tie as tie
 

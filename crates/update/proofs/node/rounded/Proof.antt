@@ -10,18 +10,18 @@ use mir.Syntax.{w64}
 use mir.Val.{SFits, toZ, ofZ}
 use mir.Facts.{toZ-ofZ}
 use borrow.Author.Needs.{needs}
-use Rattle.arith.specs.Rounding.{nearest, halvesAway}
+use Rattle.arith.specs.Rounding.{rounded}
 use Rattle.update.proofs.Rounded.{rounds, rounds-negative, sign, less-fits, less-size, less-small, less-cast, plain-cast, held, negated-fits, negated, negated-size}
 use Rattle.update.proofs.node.rounded.Statement.{statement}
 use Rattle.update.proofs.node.rounded.Tie as tie
 
 -- below 0
 module _ (z : ℤ) (fits : SFits w64 z) (test : ltZ (toZ w64 (ofZ w64 z)) (pos 0) ≡ true) where
-  answer : (m r : ℕ) → 0 < m → r ≡ (natAbs (toZ w64 (ofZ w64 (negsuc 0 -ℤ toZ w64 (ofZ w64 z)))) + 1 + 2 * m) / (4 * m) → negℤ (pos r) ≡ nearest halvesAway z (4 * m)
+  answer : (m r : ℕ) → 0 < m → r ≡ (natAbs (toZ w64 (ofZ w64 (negsuc 0 -ℤ toZ w64 (ofZ w64 z)))) + 1 + 2 * m) / (4 * m) → negℤ (pos r) ≡ rounded z (4 * m)
   answer m r p e =
       ap (λ n. negℤ (pos n)) (e ∙ ap (λ n. (n + 2 * m) / (4 * m)) (ap (λ n. n + 1) (less-size z fits test) ∙ add-one (sign z fits test .less)))
       ∙ sym (rounds-negative m p (sign z fits test .less))
-      ∙ ap (λ y. nearest halvesAway y (4 * m)) (sym (sign z fits test .is))
+      ∙ ap (λ y. rounded y (4 * m)) (sym (sign z fits test .is))
 
 sub-rounded-size : tie.Need-sub-rounded-size
 sub-rounded-size c = less-fits _ (c .before .fits .momentum) (c .if1 .taken)

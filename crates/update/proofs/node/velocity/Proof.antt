@@ -8,7 +8,7 @@ use mir.Facts.{toZ-ofZ}
 use borrow.Author.Needs.{needs}
 use Rattle.arith.specs.Size.{Bound, sizes, fits}
 use Rattle.arith.specs.Machine.{fits₂, result₂}
-use Rattle.arith.specs.Rounding.{nearest, halvesAway}
+use Rattle.arith.specs.Rounding.{rounded}
 use Rattle.apic.specs.Step.{nodeVelocity}
 use Rattle.update.specs.Update.{velocityOf}
 use Rattle.update.proofs.node.velocity.Statement.{statement}
@@ -18,7 +18,7 @@ massless : (g : ℤ) (m : ℕ) (p : ℤ) → m ≡ 0 → velocityOf g m p ≡ po
 unfolding nodeVelocity
 massless g m p e = ap (λ n. velocityOf g n p) e
 
-massive : (g : ℤ) (m : ℕ) (p : ℤ) → (m ≡ 0 → ⊥) → velocityOf g m p ≡ nearest halvesAway p (4 * m) +ℤ g
+massive : (g : ℤ) (m : ℕ) (p : ℤ) → (m ≡ 0 → ⊥) → velocityOf g m p ≡ rounded p (4 * m) +ℤ g
 unfolding nodeVelocity
 massive g zero p e = absurd (e refl)
 massive g (suc m) p e = refl

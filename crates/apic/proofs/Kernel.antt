@@ -1,0 +1,46 @@
+-- A kernel's weights are an instance of the laws' weights.
+--     kernel-placed      a particle on the grid is placed
+--     kernel-near        a node with a weight is at most 96 away
+--     kernel-mass-nonneg, kernel-mass
+--                        a node's mass is not negative, and at most 2^26 times the total mass
+--     kernel-momentum    a node's momentum is at most mostMomentum·2^26 times the total mass
+-- Assumes nothing.
+use mathlib.Core.List.{List}
+use Prim.Native.Nat.{ℕ, _*_, _^_, _<_}
+use lib.IntN.{pos}
+use lib.Signed.{_≤ℤ_}
+use Rattle.arith.specs.Order.{within-of}
+use Rattle.arith.specs.Size.{Bound, within-bound}
+use Rattle.arith.specs.Sums.{Each, each-map}
+use Rattle.spline.specs.Kernel.{weightIn, Kernel}
+use Rattle.spline.proofs.Axis.{near, moments}
+use Rattle.particle.specs.declared.Particle.{Particle}
+use Rattle.apic.specs.Step.{Axis, nodeMass, nodeMomentum}
+use Rattle.apic.specs.Totals.{totalMass}
+use Rattle.apic.specs.Limits.{ParticleLimits}
+use Rattle.apic.proofs.Placed.{Placed}
+use Rattle.apic.proofs.Update.{node-mass-nonneg}
+use Rattle.apic.proofs.Bounds.{Near, Limited, mostMomentum, node-mass-total, node-momentum-total}
+
+pub kernel-near : (table : List (List ℕ)) → Near (weightIn table)
+kernel-near table x i = near table x i
+
+module _ {table : List (List ℕ)} {D : ℕ} (kernel : Kernel table D) (nx ny : ℕ) (ps : List Particle) where
+  pub kernel-placed : Each (ParticleLimits nx ny) ps → Each (Placed (weightIn table) D nx ny) ps
+  kernel-placed e =
+      each-map (ParticleLimits nx ny) (Placed (weightIn table) D nx ny)
+      (λ p h. record { along-x = moments kernel (p .x) nx (h .x-on); along-y = moments kernel (p .y) ny (h .y-on) }) ps e
+
+  pub kernel-mass-nonneg : Each (ParticleLimits nx ny) ps → (i j : ℕ) → pos 0 ≤ℤ nodeMass (weightIn table) ps i j
+  kernel-mass-nonneg e = node-mass-nonneg (weightIn table) D nx ny ps (kernel-placed e)
+
+  module _ (limits : Limited nx ny ps) (i j : ℕ) (in-x : i < nx) (in-y : j < ny) where
+    pub kernel-mass : Bound (nodeMass (weightIn table) ps i j) (2 ^ 26 * totalMass ps)
+    kernel-mass =
+        within-bound
+        (within-of (kernel-mass-nonneg (limits .each) i j)
+        (node-mass-total (weightIn table) (kernel-near table) D nx ny ps (kernel-placed (limits .each)) i j in-x in-y))
+
+    pub kernel-momentum : (a : Axis) → Bound (nodeMomentum (weightIn table) D a ps i j) (mostMomentum D * (2 ^ 26 * totalMass ps))
+    kernel-momentum a =
+        node-momentum-total (weightIn table) (kernel-near table) D nx ny ps (kernel-placed (limits .each)) limits a i j in-x in-y

@@ -1,0 +1,306 @@
+-- The place of every refusal is below 2^32, operation by operation: at most as many records or nodes are walked as a set may have records.
+-- Assumes nothing.
+use mathlib.Core.Path.{_≡_, refl, subst}
+use mathlib.Core.Bool.{Bool, true, false, not, _&&_}
+use mathlib.Core.List.{List, [], _∷_}
+use Prim.Native.Nat.{ℕ, zero, suc, _+_, _*_, _<_, _≤_}
+use native.Mathlib.Omega.{arith}
+use native.Mathlib.Nat.{mul-le-mul}
+use lib.Dec.{eqb, ltb}
+use lib.IntN.{ℤ, pos, negsuc, natAbs}
+use lib.Signed.{leZ}
+use lib.ListN.{length, getD, take, length-map}
+use borrow.Author.Tests.{not-false}
+use Rattle.refusal.specs.Refused.{Answer, result, refused, refuseIf, andThen, forEach, toldOf}
+use Rattle.refusal.proofs.Answers.{went-on, same-result}
+use Rattle.limits.specs.Limits.{mostSide, mostRecords, mostTotalMass, mostGravity, mostSteps, validMass, validGravity}
+use Rattle.spline.specs.Spline.{axisWeight}
+use Rattle.particle.specs.declared.Particle.{Particle}
+use Rattle.particle.specs.Layout.{recordLength}
+use Rattle.particle.specs.Record.{particleOf, readAnswer, readParticle, lowestVelocity, lowestAffine, writeAnswer, writeParticle, validVelocities, validAffines, validPositions}
+use Rattle.particles.specs.Set.{onGrid, admitted, setFrom, setOf, recordAt, recordCount, setAnswer, checkAnswer, validSize, validLength, recordsOf}
+use Rattle.totals.specs.Totals.{totalsAnswer}
+use Rattle.particles.proofs.Checks.{size-limits, length-limits}
+use Rattle.particles.proofs.Accepted.{accepted-limits}
+use Rattle.spline.specs.Answers.{weightsAnswer}
+use Rattle.update.specs.Update.{breaksMass, breaksVelocity, checkNode, checkNodeAt, checkNodes, updateAnswer}
+use Rattle.apic.specs.Step.{newCoordinate, alongX, alongY, Grids}
+use Rattle.apic.specs.Limits.{SizeLimits, SetLimits}
+use Rattle.gather_core.specs.Gather.{tooFast, tooSteep, offGrid, moveCheck, moveChecks, gathered}
+use Rattle.settings.specs.Settings.{still}
+use Rattle.entry.specs.declared.Buffers.{Buffers}
+use Rattle.entry.specs.declared.Buffers.the-variants.{Two, Three}
+use Rattle.entry.specs.Checks.{areLong, bothWithin}
+use Rattle.entry.specs.Entry.{beginAnswer, entryAnswer}
+use Rattle.entry.proofs.Entry.{passed-checks, accepted}
+use Rattle.transfer.specs.Transfer.{velocityCheck, velocityChecks, checkedSet, gatherAnswer}
+use Rattle.settings.specs.declared.Settings.{Settings}
+use Rattle.simulation.specs.Step.{buffersOf, nodesOf, move, stepped, stepOf, stepEntry, stepFrom, stepAfter}
+use Rattle.simulation.specs.Run.{runFrom, runEntry, runAfter}
+use Rattle.simulation.proofs.Steps.{step-result}
+use Rattle.simulation.proofs.Calls.{ready-step, ready-run}
+use Rattle.bath_file.specs.declared.Header.{Header}
+use Rattle.bath_file.specs.Layout.{headerLength, spare, held}
+use Rattle.bath_file.specs.File as file
+use Rattle.bath_file.proofs.Answers.{header-held}
+use Rattle.coding.proofs.Coding.{Placed, accepts, refuses}
+
+pub nowhere : 0 < 4294967296
+nowhere = omega arith
+
+module _ {A : Type 0} (b : Bool) (n : ℕ) where
+  -- a check with a place, and one without
+  check : (k : ℕ) (rest : Answer A) → k < 4294967296 → (b ≡ false → Placed rest) → Placed (refuseIf b n k rest)
+  check k rest h f = go b f
+    where
+      go : (t : Bool) → (t ≡ false → Placed rest) → Placed (refuseIf t n k rest)
+      go true f = refuses h
+      go false f = f refl
+
+  plain : (rest : Answer A) → (b ≡ false → Placed rest) → Placed (refuseIf b n 0 rest)
+  plain rest f = check 0 rest nowhere f
+
+next : {A B : Type 0} (a : Answer A) (f : A → Answer B) → Placed a → ((x : A) → a ≡ result x → Placed (f x)) → Placed (andThen a f)
+next (result x) f h g = g x refl
+next (refused n k) f (refuses h) g = refuses h
+
+few : {n : ℕ} → n ≤ mostRecords → 0 + n < 4294967296
+few h = omega arith
+
+-- ---- records
+
+module _ (index : ℕ) (h : index < 4294967296) where
+  found : (p : Particle) → Placed (readParticle index p)
+  unfolding readParticle
+  found p =
+      check (eqb (p .mass) 0) 4 index _ h (λ _. check (lowestVelocity p) 5 index _ h (λ _. check (lowestAffine p) 6 index _ h (λ _. accepts)))
+
+  pub read : (bytes : List ℕ) → Placed (readAnswer index bytes)
+  unfolding readAnswer
+  read bytes = plain (not (eqb (length bytes) recordLength)) 1 _ (λ _. found (particleOf bytes))
+
+pub write : (p : Particle) (bytes : List ℕ) → Placed (writeAnswer p bytes)
+unfolding writeAnswer writeParticle
+write p bytes =
+    plain (not (eqb (length bytes) recordLength)) 1 _
+    (λ _.
+    plain (not (validMass (p .mass))) 4 _
+    (λ _. plain (not (validVelocities p)) 5 _ (λ _. plain (not (validAffines p)) 6 _ (λ _. plain (not (validPositions p)) 7 _ (λ _. accepts)))))
+
+pub weights : (q : ℤ) → Placed (weightsAnswer q)
+weights q = plain (not (leZ (negsuc 31) q && leZ q (pos 31))) 7 _ (λ _. accepts)
+
+-- ---- sets
+
+module _ (nx ny start : ℕ) (bytes : List ℕ) where
+  admits : (k least mass : ℕ) (p : Particle) → k < 4294967296 → Placed (admitted nx ny k least mass p)
+  unfolding admitted
+  admits k least mass p h =
+      check (not (onGrid nx ny p)) 7 k _ h (λ _. check (ltb (p .identifier) least) 8 k _ h (λ _. check (ltb mostTotalMass (mass + p .mass)) 9 k _ h (λ _. accepts)))
+
+  pub walk : (left k least mass : ℕ) → k + left < 4294967296 → Placed (setFrom nx ny start bytes left k least mass)
+  unfolding setFrom
+  walk zero k least mass h = accepts
+  walk (suc left) k least mass h =
+      next (readAnswer k (recordAt start bytes k)) _ (read k (omega arith) (recordAt start bytes k))
+      (λ p _.
+      next (admitted nx ny k least mass p) _ (admits k least mass p (omega arith))
+      (λ q _.
+      next (setFrom nx ny start bytes left (suc k) (suc (q .identifier)) (mass + q .mass)) _ (walk left (suc k) (suc (q .identifier)) (mass + q .mass) (omega arith)) (λ _ _. accepts)))
+
+module _ (nx ny : ℕ) (bytes : List ℕ) where
+  pub set : Placed (setAnswer nx ny bytes)
+  set =
+      plain (not (validSize nx ny)) 2 _
+      (λ _.
+      plain (not (validLength (length bytes))) 1 _
+      (λ e. walk nx ny 0 bytes (recordCount bytes) 0 0 0 (few (length-limits (length bytes) (not-false (validLength (length bytes)) e) .count))))
+
+  pub counted : Placed (checkAnswer nx ny bytes)
+  counted = next (setAnswer nx ny bytes) _ set (λ _ _. accepts)
+
+  pub totalled : Placed (totalsAnswer nx ny bytes)
+  totalled = next (setAnswer nx ny bytes) _ set (λ _ _. accepts)
+
+-- ---- grids
+
+each : (f : ℕ → Answer Unit) (k n : ℕ) → ((i : ℕ) → i < 4294967296 → Placed (f i)) → k + n < 4294967296 → Placed (forEach f k n)
+each f k zero h m = accepts
+each f k (suc n) h m = next (f k) _ (h k (omega arith)) (λ _ _. each f (suc k) n h (omega arith))
+
+node : (gx gy : ℤ) (k M : ℕ) (px py : ℤ) → k < 4294967296 → Placed (checkNode gx gy k M px py)
+unfolding checkNode
+node gx gy k M px py h = check (breaksMass M px py) 11 k _ h (λ _. check (breaksVelocity gx gy M px py) 12 k _ h (λ _. accepts))
+
+nodes-few : {nx ny : ℕ} → SizeLimits nx ny → 0 + nx * ny < 4294967296
+nodes-few {nx} {ny} s = few (lt (nx * ny) (mul-le-mul (s .x-most) (s .y-most)))
+  where
+    lt : (n : ℕ) → n ≤ mostSide * mostSide → n ≤ mostRecords
+    lt n h = omega arith
+
+-- ---- the checks at entry
+
+begin : (s : Settings) (buffers : Buffers) (steps bytes : ℕ) → Placed (beginAnswer s buffers steps bytes)
+unfolding beginAnswer
+begin s buffers steps bytes =
+    plain (not (validSize (s .nx) (s .ny))) 2 _
+    (λ _.
+    plain (not (validLength bytes)) 1 _
+    (λ _.
+    plain (not (areLong (s .nx * s .ny) buffers)) 1 _
+    (λ _. plain (not (bothWithin mostGravity (s .gx) (s .gy))) 10 _ (λ _. plain (ltb mostSteps steps) 17 _ (λ _. accepts)))))
+
+module _ (s : Settings) (buffers : Buffers) (steps : ℕ) (records : List ℕ) where
+  pub entry : Placed (entryAnswer s buffers steps records)
+  unfolding entryAnswer
+  entry =
+      next (beginAnswer s buffers steps (length records)) _ (begin s buffers steps (length records))
+      (λ _ e.
+      walk (s .nx) (s .ny) 0 records (recordCount records) 0 0 0
+      (few (length-limits (length records) (passed-checks s buffers steps (length records) e .0 .whole) .count)))
+
+  few-entered : {ps : List Particle} → entryAnswer s buffers steps records ≡ result ps → SetLimits (s .nx) (s .ny) ps
+  few-entered e = accepted-limits (s .nx) (s .ny) records (accepted s buffers steps records e .set)
+
+-- ---- update
+
+module _ (nx ny : ℕ) (gx gy : ℤ) (mass : List ℕ) (px py : List ℤ) where
+  abbrev settings : Settings
+  settings = record { nx = nx; ny = ny; gx = gx; gy = gy }
+
+  abbrev three : Buffers
+  three = Three (length mass) (length px) (length py)
+
+  pub update : Placed (updateAnswer nx ny gx gy mass px py)
+  unfolding updateAnswer checkNodes
+  update =
+      next (beginAnswer settings three 0 0) _ (begin settings three 0 0)
+      (λ _ e.
+      each (checkNodeAt gx gy mass px py) 0 (nx * ny) (λ i h. node gx gy i (getD mass i 0) (getD px i (pos 0)) (getD py i (pos 0)) h)
+      (nodes-few (size-limits nx ny (passed-checks settings three 0 0 e .0 .size))))
+
+-- ---- transfers
+
+moves : {A : Type 0} (nx ny : ℕ) (move : Particle → Particle) (k : ℕ) (ps : List Particle) (rest : Answer A) → k + length ps < 4294967296 → Placed rest → Placed (moveChecks nx ny move k ps rest)
+unfolding moveChecks moveCheck
+moves nx ny move k [] rest h r = r
+moves nx ny move k (p ∷ ps) rest h r =
+    let q = move p in
+    check (tooFast (q .vx) (q .vy)) 13 k _ (omega arith)
+    (λ _.
+    check (tooSteep (q .bxx) (q .bxy) (q .byx) (q .byy)) 14 k _ (omega arith)
+    (λ _.
+    check (offGrid nx ny (newCoordinate alongX p (q .vx)) (newCoordinate alongY p (q .vy))) 15 k _ (omega arith)
+    (λ _. moves nx ny move (suc k) ps rest (omega arith) r)))
+
+module _ (nx ny : ℕ) (records : List ℕ) (ux uy : List ℤ) where
+  abbrev buffers : Buffers
+  buffers = Two (length ux) (length uy)
+
+  velocities : SizeLimits nx ny → Placed (velocityChecks (nx * ny) ux uy)
+  unfolding velocityChecks
+  velocities v =
+      each (velocityCheck ux uy) 0 (nx * ny) (λ i h. check (not (bothWithin 131072 (getD ux i (pos 0)) (getD uy i (pos 0)))) 12 i _ h (λ _. accepts)) (nodes-few v)
+
+  ready : Placed (checkedSet nx ny records ux uy)
+  unfolding checkedSet
+  ready =
+      next (entryAnswer (still nx ny) buffers 0 records) _ (entry (still nx ny) buffers 0 records)
+      (λ ps e. next (velocityChecks (nx * ny) ux uy) _ (velocities (few-entered (still nx ny) buffers 0 records e .sizes)) (λ _ _. accepts))
+
+  ready-few : {ps : List Particle} → checkedSet nx ny records ux uy ≡ result ps → length ps ≤ mostRecords
+  unfolding checkedSet
+  ready-few e =
+      let s = went-on (entryAnswer (still nx ny) buffers 0 records) (λ ps. andThen (velocityChecks (nx * ny) ux uy) (λ _. result ps)) e in
+      let t = went-on (velocityChecks (nx * ny) ux uy) (λ _. result (s .0)) (s .2) in
+      subst (λ l. length l ≤ mostRecords) (same-result (t .2)) (few-entered (still nx ny) buffers 0 records (s .1) .count)
+
+  pub gather : Placed (gatherAnswer nx ny records ux uy)
+  gather =
+      next (checkedSet nx ny records ux uy) _ ready
+      (λ ps e. moves nx ny (gathered axisWeight nx ny ux uy) 0 ps _ (few (ready-few e)) accepts)
+
+-- what is told of an answer has its place
+pub told : {A : Type 0} (a : Answer A) → Placed a → Placed (toldOf a)
+told a h = next a _ h (λ _ _. accepts)
+
+-- ---- steps and runs
+
+module _ (s : Settings) (records : List ℕ) (grids : Grids) where
+  step-entry : Placed (stepEntry s records grids)
+  unfolding stepEntry
+  step-entry = entry s (buffersOf grids) 0 records
+
+  run-entry : (steps : ℕ) → Placed (runEntry s steps records grids)
+  unfolding runEntry
+  run-entry steps = entry s (buffersOf grids) steps records
+
+module _ (s : Settings) where
+  one-step : (ps : List Particle) → length ps ≤ mostRecords → Placed (stepOf s ps)
+  unfolding stepOf
+  one-step ps h = moves (s .nx) (s .ny) (move s ps) 0 ps _ (few h) accepts
+
+  same-count : (ps : List Particle) {qs : List Particle} → length ps ≤ mostRecords → stepOf s ps ≡ result qs → length qs ≤ mostRecords
+  unfolding stepped
+  same-count ps h e = subst (λ l. length l ≤ mostRecords) (step-result s ps e .1) (rw length-map h)
+
+  pub step : (records : List ℕ) (grids : Grids) → Placed (stepAfter s records grids .answer)
+  unfolding stepAfter stepFrom
+  step records grids = go (stepEntry s records grids) refl (step-entry s records grids)
+    where
+      after : (ps : List Particle) (a : Answer (List Particle)) → stepOf s ps ≡ a → Placed a → Placed (stepFrom s records ps .answer)
+      after ps (result qs) e h = rw e accepts
+      after ps (refused n k) e (refuses h) = rw e (refuses h)
+
+      go : (a : Answer (List Particle)) → stepEntry s records grids ≡ a → Placed a → Placed (stepAfter s records grids .answer)
+      go (result ps) e h = rw e (after ps (stepOf s ps) refl (one-step ps (ready-step s records grids e .limits .count)))
+      go (refused n k) e (refuses h) = rw e (refuses h)
+
+  run-from : (n : ℕ) (records : List ℕ) (ps : List Particle) (grids : Grids) → length ps ≤ mostRecords → Placed (runFrom s n records ps grids .answer .stop)
+  unfolding runFrom
+  run-from zero records ps grids h = accepts
+  run-from (suc n) records ps grids h = go (λ qs. run-from n (recordsOf qs) qs (nodesOf s ps)) (stepOf s ps) refl (one-step ps h)
+    where
+      go : ((qs : List Particle) → length qs ≤ mostRecords → Placed (runFrom s n (recordsOf qs) qs (nodesOf s ps) .answer .stop)) → (a : Answer (List Particle)) → stepOf s ps ≡ a → Placed a → Placed (runFrom s (suc n) records ps grids .answer .stop)
+      go further (result qs) e p = rw e (further qs (same-count ps h e))
+      go further (refused m k) e (refuses p) = rw e (refuses p)
+
+  pub run : (steps : ℕ) (records : List ℕ) (grids : Grids) → Placed (runAfter s steps records grids .answer .stop)
+  unfolding runAfter
+  run steps records grids = go (runEntry s steps records grids) refl (run-entry s records grids steps)
+    where
+      go : (a : Answer (List Particle)) → runEntry s steps records grids ≡ a → Placed a → Placed (runAfter s steps records grids .answer .stop)
+      go (result ps) e h = rw e (run-from steps records ps grids (ready-run s records steps grids e .limits .count))
+      go (refused n k) e (refuses h) = rw e (refuses h)
+
+-- ---- files
+
+header : {A : Type 0} (h : Header) (rest : Answer A) → Placed rest → Placed (file.checkedHeader h rest)
+unfolding file.checkedHeader
+header h rest p =
+    plain (not (validSize (h .nx) (h .ny))) 2 _
+    (λ _.
+    plain (not (validGravity (h .gx) && validGravity (h .gy))) 10 _
+    (λ _. plain (ltb mostRecords (h .count)) 3 _ (λ _. plain (ltb mostSteps (h .steps)) 17 _ (λ _. p))))
+
+module _ (bytes : List ℕ) where
+  header-read : Placed (file.headerAnswer bytes)
+  unfolding file.headerAnswer
+  header-read =
+      plain (ltb (length bytes) headerLength) 1 _
+      (λ _.
+      header (file.headerIn (take headerLength bytes)) _
+      (plain (not (eqb (natAbs (held spare (take headerLength bytes))) 0)) 16 _ (λ _. accepts)))
+
+  records-read : (h : Header) → h .count ≤ mostRecords → Placed (file.recordsAnswer h bytes)
+  unfolding file.recordsAnswer
+  records-read h c =
+      plain (not (eqb (length bytes) (headerLength + recordLength * h .count))) 1 _
+      (λ _. next (setOf (h .nx) (h .ny) headerLength bytes (h .count)) _ (walk (h .nx) (h .ny) headerLength bytes (h .count) 0 0 0 (few c)) (λ _ _. accepts))
+
+  pub file-read : Placed (file.fileAnswer bytes)
+  file-read = next (file.headerAnswer bytes) _ header-read (λ h e. records-read h (header-held bytes e .valid .count-to))
+
+pub header-written : (h : Header) (bytes : List ℕ) → Placed (file.writeAnswer h bytes)
+unfolding file.writeAnswer
+header-written h bytes = plain (not (eqb (length bytes) headerLength)) 1 _ (λ _. header h _ accepts)

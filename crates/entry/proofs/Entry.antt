@@ -1,0 +1,166 @@
+-- The checks at entry, and what is known where they pass.
+--     told-done, kept-refusal     an answer whose value is changed is done, or refused, as the answer is
+--     and-true, within-both, both-within, Long, long-three     the tests as facts
+--     count-fits                  the number of nodes is a machine number
+--     bad-size .. too-many, begins     the answer before the set, by its tests
+--     Passed, passed-checks       what is known where it is done
+--     Accepted, accepted          what is known where the set is accepted too
+--     enters                      and what is enough for it
+-- Assumes nothing.
+use mathlib.Core.Path.{_≡_, refl, sym, ap, ap₂, _∙_}
+use mathlib.Core.Bool.{Bool, true, false, not, _&&_, true≢false}
+use mathlib.Core.List.{List}
+use Prim.Native.Nat.{ℕ, _*_, _≤_, _<_}
+use native.Mathlib.Nat.{mul-le-mul, lt-of-le-of-lt}
+use lib.Dec.{leb, ltb, eqb, lit<}
+use lib.ListN.{length}
+use lib.IntN.{ℤ, natAbs}
+use mir.Syntax.{w64}
+use mir.Val.{Fits}
+use borrow.Author.Tests.{eqb-true, eq-eqb, le-leb, leb-true, lt-ltb, le-ltb, ltb-false, not-false}
+use Rattle.refusal.specs.Refused.{Answer, result, refused, refuseIf, andThen, done, toldOf}
+use Rattle.refusal.proofs.Answers.{not-refused, same-refusal, passed, went-on}
+use Rattle.particle.specs.declared.Particle.{Particle}
+use Rattle.limits.specs.Limits.{mostGravity, mostSteps}
+use Rattle.particles.specs.Set.{validSize, validLength, recordCount, setOf, setAnswer}
+use Rattle.particles.proofs.Checks.{size-limits, good-entry, entered}
+use Rattle.settings.specs.declared.Settings.{Settings}
+use Rattle.entry.specs.declared.Buffers.{Buffers}
+use Rattle.entry.specs.declared.Buffers.the-variants.{Three}
+use Rattle.entry.specs.Checks.{areLong, bothWithin}
+use Rattle.entry.specs.Entry.{beginAnswer, entryAnswer}
+
+-- ---- answers
+
+module _ {A B : Type 0} (a : Answer A) (f : A → B) where
+  pub told-done : {b : B} → andThen a (λ x. result (f x)) ≡ result b → toldOf a ≡ done
+  told-done e = ap toldOf (went-on a (λ x. result (f x)) e .1)
+
+pub kept-refusal : {A B : Type 0} (a : Answer A) (f : A → B) {n k : ℕ} → andThen a (λ x. result (f x)) ≡ refused n k → a ≡ refused n k
+kept-refusal (result x) f e = not-refused e
+kept-refusal (refused n k) f e = same-refusal e
+
+-- ---- tests as facts
+
+pub and-true : (a b : Bool) → a && b ≡ true → (a ≡ true) × (b ≡ true)
+and-true true b e = (refl, e)
+and-true false b e = absurd (true≢false (sym e))
+
+pub within-both : (n : ℕ) (x y : ℤ) → bothWithin n x y ≡ true → (natAbs x ≤ n) × (natAbs y ≤ n)
+within-both n x y e =
+    let b = and-true (leb (natAbs x) n) (leb (natAbs y) n) e in
+    (leb-true (natAbs x) n (b .0), leb-true (natAbs y) n (b .1))
+
+pub both-within : (n : ℕ) (x y : ℤ) → natAbs x ≤ n → natAbs y ≤ n → bothWithin n x y ≡ true
+both-within n x y h k = ap₂ _&&_ (le-leb (natAbs x) n h) (le-leb (natAbs y) n k)
+
+pub record Long (n mass x y : ℕ) : Type 0 where
+  pub mass-is : mass ≡ n
+  pub x-is : x ≡ n
+  pub y-is : y ≡ n
+
+pub long-three : (n mass x y : ℕ) → areLong n (Three mass x y) ≡ true → Long n mass x y
+long-three n mass x y e =
+    let a = and-true (eqb mass n) (eqb x n && eqb y n) e in
+    let b = and-true (eqb x n) (eqb y n) (a .1) in
+    record { mass-is = eqb-true mass n (a .0); x-is = eqb-true x n (b .0); y-is = eqb-true y n (b .1) }
+
+pub three-long : {n mass x y : ℕ} → Long n mass x y → areLong n (Three mass x y) ≡ true
+three-long {n} {mass} {x} {y} l = ap₂ _&&_ (eq-eqb mass n (l .mass-is)) (ap₂ _&&_ (eq-eqb x n (l .x-is)) (eq-eqb y n (l .y-is)))
+
+pub count-fits : (nx ny : ℕ) → validSize nx ny ≡ true → Fits w64 (nx * ny)
+count-fits nx ny e =
+    let s = size-limits nx ny e in
+    record { fits = lt-of-le-of-lt (mul-le-mul (s .x-most) (s .y-most)) (lit< tt) }
+
+-- ---- before the set
+
+module _ (s : Settings) (buffers : Buffers) (steps bytes : ℕ) where
+  by-tests : {a b c d e : Bool} → validSize (s .nx) (s .ny) ≡ a → validLength bytes ≡ b → areLong (s .nx * s .ny) buffers ≡ c → bothWithin mostGravity (s .gx) (s .gy) ≡ d → ltb mostSteps steps ≡ e → beginAnswer s buffers steps bytes ≡ refuseIf (not a) 2 0 (refuseIf (not b) 1 0 (refuseIf (not c) 1 0 (refuseIf (not d) 10 0 (refuseIf e 17 0 done))))
+  unfolding beginAnswer
+  by-tests p q r t u = rw (p, q, r, t, u)
+
+  pub bad-size : validSize (s .nx) (s .ny) ≡ false → beginAnswer s buffers steps bytes ≡ refused 2 0
+  bad-size p = by-tests p refl refl refl refl
+
+  pub bad-length : validSize (s .nx) (s .ny) ≡ true → validLength bytes ≡ false → beginAnswer s buffers steps bytes ≡ refused 1 0
+  bad-length p q = by-tests p q refl refl refl
+
+  pub bad-lengths : validSize (s .nx) (s .ny) ≡ true → validLength bytes ≡ true → areLong (s .nx * s .ny) buffers ≡ false → beginAnswer s buffers steps bytes ≡ refused 1 0
+  bad-lengths p q r = by-tests p q r refl refl
+
+  pub bad-gravity : validSize (s .nx) (s .ny) ≡ true → validLength bytes ≡ true → areLong (s .nx * s .ny) buffers ≡ true → bothWithin mostGravity (s .gx) (s .gy) ≡ false → beginAnswer s buffers steps bytes ≡ refused 10 0
+  bad-gravity p q r t = by-tests p q r t refl
+
+  -- past the first four checks
+  pub record Passed : Type 0 where
+    pub size : validSize (s .nx) (s .ny) ≡ true
+    pub whole : validLength bytes ≡ true
+    pub long : areLong (s .nx * s .ny) buffers ≡ true
+    pub light : bothWithin mostGravity (s .gx) (s .gy) ≡ true
+
+  pub too-many : Passed → mostSteps < steps → beginAnswer s buffers steps bytes ≡ refused 17 0
+  too-many h e = by-tests (h .size) (h .whole) (h .long) (h .light) (lt-ltb mostSteps steps e)
+
+  pub begins : Passed → steps ≤ mostSteps → beginAnswer s buffers steps bytes ≡ done
+  begins h e = by-tests (h .size) (h .whole) (h .long) (h .light) (le-ltb mostSteps steps e)
+
+  pub passed-checks : {t : Unit} → beginAnswer s buffers steps bytes ≡ result t → Passed × (steps ≤ mostSteps)
+  unfolding beginAnswer
+  passed-checks e =
+      let size = passed (not (validSize (s .nx) (s .ny))) 2 0 _ e in
+      let whole = passed (not (validLength bytes)) 1 0 _ (size .1) in
+      let long = passed (not (areLong (s .nx * s .ny) buffers)) 1 0 _ (whole .1) in
+      let light = passed (not (bothWithin mostGravity (s .gx) (s .gy))) 10 0 _ (long .1) in
+      let few = passed (ltb mostSteps steps) 17 0 done (light .1) in (
+        record {
+          size = not-false (validSize (s .nx) (s .ny)) (size .0);
+          whole = not-false (validLength bytes) (whole .0);
+          long = not-false (areLong (s .nx * s .ny) buffers) (long .0);
+          light = not-false (bothWithin mostGravity (s .gx) (s .gy)) (light .0);
+        },
+        ltb-false mostSteps steps (few .0),
+      )
+
+-- ---- and the set
+
+pub record Accepted (s : Settings) (buffers : Buffers) (steps : ℕ) (records : List ℕ) (ps : List Particle) : Type 0 where
+  pub set : setAnswer (s .nx) (s .ny) records ≡ result ps
+  pub long : areLong (s .nx * s .ny) buffers ≡ true
+  pub gravity-x : natAbs (s .gx) ≤ mostGravity
+  pub gravity-y : natAbs (s .gy) ≤ mostGravity
+  pub few : steps ≤ mostSteps
+
+module _ (s : Settings) (buffers : Buffers) (steps : ℕ) (records : List ℕ) where
+  pub begun : {a : Answer Unit} → beginAnswer s buffers steps (length records) ≡ a → entryAnswer s buffers steps records ≡ andThen a (λ _. setOf (s .nx) (s .ny) 0 records (recordCount records))
+  unfolding entryAnswer
+  begun e = ap (λ a. andThen a (λ _. setOf (s .nx) (s .ny) 0 records (recordCount records))) e
+
+  pub accepted : {ps : List Particle} → entryAnswer s buffers steps records ≡ result ps → Accepted s buffers steps records ps
+  unfolding entryAnswer
+  accepted e =
+      let w = went-on (beginAnswer s buffers steps (length records)) _ e in
+      let checks = passed-checks s buffers steps (length records) (w .1) in
+      let p = checks .0 in
+      let g = within-both mostGravity (s .gx) (s .gy) (p .light) in
+      record {
+        set = good-entry (s .nx) (s .ny) records (p .size) (p .whole) ∙ w .2;
+        long = p .long;
+        gravity-x = g .0;
+        gravity-y = g .1;
+        few = checks .1;
+      }
+
+  pub enters : {ps : List Particle} → Accepted s buffers steps records ps → entryAnswer s buffers steps records ≡ result ps
+  enters a =
+      let w = entered (s .nx) (s .ny) records (a .set) in
+      begun
+      (begins s buffers steps (length records)
+      (record {
+        size = w .size;
+        whole = w .whole;
+        long = a .long;
+        light = both-within mostGravity (s .gx) (s .gy) (a .gravity-x) (a .gravity-y);
+      })
+      (a .few))
+      ∙ w .set

@@ -1,0 +1,66 @@
+// The checks that an operation begins with, in document 01's order.
+pub mod checks;
+
+use limits::MOST_STEPS;
+use particle::RECORD_LENGTH;
+use particles::Checked;
+use refusal::Refusal;
+use settings::Settings;
+ghost use mathlib.Core.Path.{_≡_};
+ghost use lib.ListN.{length};
+ghost use Rattle.refusal.specs.Refused.{result, andThen};
+ghost use Rattle.particles.specs.Set.{toldChecked};
+ghost use Rattle.entry.specs.Entry.{toldBegun, beginAnswer, entryAnswer};
+
+// The lengths of the grid buffers that a call is lent.
+pub enum Buffers {
+    None,
+    Two(usize, usize),
+    Three(usize, usize, usize),
+}
+
+// Whether the checks before the set are passed.
+pub enum Begun {
+    Done,
+    Refused(Refusal),
+}
+
+// The checks before the set, whose records have so many bytes.
+pub fn begin(settings: Settings, buffers: Buffers, steps: usize, bytes: usize) -> Begun
+    ensures { λ r. ⌜ toldBegun r ≡ beginAnswer settings buffers steps bytes ⌝ }
+{
+    let nx = settings.nx;
+    let ny = settings.ny;
+    if !particles::size_is_valid(nx, ny) {
+        return Begun::Refused(Refusal::GridSize);
+    }
+    if !particles::length_is_valid(bytes) {
+        return Begun::Refused(Refusal::Length);
+    }
+    if !checks::are_long(nx * ny, buffers) {
+        return Begun::Refused(Refusal::Length);
+    }
+    if !checks::gravity_in_range(settings.gx, settings.gy) {
+        return Begun::Refused(Refusal::Gravity);
+    }
+    if MOST_STEPS < steps {
+        return Begun::Refused(Refusal::Steps);
+    }
+    Begun::Done
+}
+
+// The same, and then the set: the number of its records.
+pub fn check(settings: Settings, buffers: Buffers, steps: usize, records: &[u8]) -> Checked
+    ensures { λ r. ⌜ toldChecked r ≡ andThen (entryAnswer settings buffers steps (now (records .entry))) (λ ps. result (length ps)) ⌝ }
+{
+    match begin(settings, buffers, steps, records.len()) {
+        Begun::Refused(refusal) => Checked::Refused(refusal),
+        Begun::Done => particles::check(
+            settings.nx,
+            settings.ny,
+            records,
+            0,
+            records.len() / RECORD_LENGTH,
+        ),
+    }
+}

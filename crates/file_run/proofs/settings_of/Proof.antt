@@ -1,0 +1,22 @@
+-- `settings_of` meets its contract: gravity is a small number, widened. Assumes nothing.
+use mathlib.Core.Path.{ap₂}
+use Rattle.bits.proofs.Held.{held-signed}
+use borrow.Author.Needs.{needs}
+use Rattle.file_run.proofs.settings_of.Statement.{statement}
+use Rattle.file_run.proofs.settings_of.Tie as tie
+
+signed-requires : tie.Need-signed-requires
+signed-requires c κs = search needs
+
+signed-requires-2 : tie.Need-signed-requires-2
+signed-requires-2 c κs = search needs
+
+returns : tie.Need-returns
+returns c =
+    let h = c .before .before .before .before .args .h in
+    ap₂ (λ gx gy. record { nx = h .nx; ny = h .ny; gx = gx; gy = gy })
+    (held-signed (h .gx) (c .before .before .signed .ensures) (c .before .before .before .struct-told .given .1 .1 .0 .1) .is)
+    (held-signed (h .gy) (c .signed2 .ensures) (c .before .struct-told2 .given .1 .1 .1 .0 .1) .is)
+
+pub settings-of-spec : {M : Type 1} → statement M
+settings-of-spec = tie.close (tie.spec signed-requires signed-requires-2 returns)

@@ -1,0 +1,70 @@
+-- Document 01's limits ("Units" and "Records") by name, and the tests for them.
+--     leastSide, mostSide         nodes along an axis
+--     leastMass, mostMass, mostVelocity, mostAffine, mostPosition     the numbers of one particle
+--     mostRecords, mostTotalMass  a set of them
+--     mostGravity, mostSteps      what a run is asked for
+--     between, isℤ, valid..       a number is within its limits
+-- Assumes nothing.
+use Prim.Native.Nat.{ℕ}
+use mathlib.Core.Bool.{Bool, _&&_}
+use lib.Dec.{leb}
+use lib.IntN.{ℤ, pos, negℤ}
+use lib.Signed.{leZ}
+
+abbrev pub leastSide : ℕ
+leastSide = 4
+
+abbrev pub mostSide : ℕ
+mostSide = 48
+
+abbrev pub leastMass : ℕ
+leastMass = 1
+
+abbrev pub mostMass : ℕ
+mostMass = 1023
+
+abbrev pub mostVelocity : ℕ
+mostVelocity = 63
+
+abbrev pub mostAffine : ℕ
+mostAffine = 2047
+
+abbrev pub mostPosition : ℕ
+mostPosition = 4095
+
+abbrev pub mostRecords : ℕ
+mostRecords = 4096
+
+abbrev pub mostTotalMass : ℕ
+mostTotalMass = 131072
+
+abbrev pub mostGravity : ℕ
+mostGravity = 4096
+
+abbrev pub mostSteps : ℕ
+mostSteps = 10000
+
+abbrev pub between : ℤ → ℤ → ℤ → Bool
+between low high z = leZ low z && leZ z high
+
+abbrev pub isℤ : ℤ → ℤ → Bool
+isℤ k z = between k k z
+
+-- −most to most
+abbrev pub within : ℕ → ℤ → Bool
+within most z = between (negℤ (pos most)) (pos most) z
+
+abbrev pub validMass : ℕ → Bool
+validMass m = leb leastMass m && leb m mostMass
+
+abbrev pub validVelocity : ℤ → Bool
+validVelocity v = within mostVelocity v
+
+abbrev pub validAffine : ℤ → Bool
+validAffine b = within mostAffine b
+
+abbrev pub validPosition : ℕ → Bool
+validPosition a = leb a mostPosition
+
+abbrev pub validGravity : ℤ → Bool
+validGravity g = within mostGravity g

@@ -1,0 +1,66 @@
+// Document 01's limits ("Units" and "Records") by name, and the tests against them.
+ghost use mathlib.Core.Path.{_≡_};
+ghost use mathlib.Core.Bool.{_&&_, _||_};
+ghost use Rattle.limits.specs.Limits.{between, isℤ, validMass, validPosition};
+
+// The number of nodes along an axis.
+pub const LEAST_SIDE: usize = 4;
+
+pub const MOST_SIDE: usize = 48;
+
+// The values of a particle.
+pub const LEAST_MASS: u16 = 1;
+
+pub const MOST_MASS: u16 = 1023;
+
+pub const MOST_VELOCITY: i16 = 63;
+
+pub const LEAST_VELOCITY: i16 = -MOST_VELOCITY;
+
+pub const MOST_AFFINE: i16 = 2047;
+
+pub const LEAST_AFFINE: i16 = -MOST_AFFINE;
+
+pub const MOST_POSITION: u16 = 4095;
+
+// The number of records in a set, and their mass.
+pub const MOST_RECORDS: usize = 4096;
+
+pub const MOST_TOTAL_MASS: u64 = 131072;
+
+// Gravity on an axis, and the number of steps.
+pub const MOST_GRAVITY: i16 = 4096;
+
+pub const LEAST_GRAVITY: i16 = -MOST_GRAVITY;
+
+pub const MOST_STEPS: usize = 10000;
+
+fn between(value: i16, low: i16, high: i16) -> bool
+    ensures { λ r. ⌜ r ≡ between low high value ⌝ }
+{
+    low <= value && value <= high
+}
+
+pub fn both_between(a: i16, b: i16, low: i16, high: i16) -> bool
+    ensures { λ r. ⌜ r ≡ between low high a && between low high b ⌝ }
+{
+    between(a, low, high) && between(b, low, high)
+}
+
+pub fn one_is(a: i16, b: i16, value: i16) -> bool
+    ensures { λ r. ⌜ r ≡ isℤ value a || isℤ value b ⌝ }
+{
+    between(a, value, value) || between(b, value, value)
+}
+
+pub fn mass_is_valid(mass: u16) -> bool
+    ensures { λ r. ⌜ r ≡ validMass mass ⌝ }
+{
+    LEAST_MASS <= mass && mass <= MOST_MASS
+}
+
+pub fn position_is_valid(x: u16, y: u16) -> bool
+    ensures { λ r. ⌜ r ≡ validPosition x && validPosition y ⌝ }
+{
+    x <= MOST_POSITION && y <= MOST_POSITION
+}

@@ -1,0 +1,2 @@
+pub mod RunReport
+pub mod Internal

@@ -1,0 +1,3 @@
+pub mod Admitted
+pub mod Shares
+pub mod Turns

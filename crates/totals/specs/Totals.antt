@@ -1,0 +1,28 @@
+-- Document 01, "Totals": the sums over a particle set, and the operation's answer. Assumes nothing.
+use mathlib.Core.List.{List}
+use Prim.Native.Nat.{ℕ}
+use Rattle.refusal.specs.Refused.{Answer, result, refusedBy, andThen}
+use Rattle.particle.specs.declared.Particle.{Particle}
+use Rattle.apic.specs.Step.{alongX, alongY}
+use Rattle.apic.specs.Totals.{totalMass, momentum, angularMomentum, motion}
+use Rattle.particles.specs.Set.{setAnswer}
+use Rattle.totals.specs.declared.Totals.{Totals}
+use Rattle.totals.specs.declared.Totalled.{Totalled}
+use Rattle.totals.specs.declared.Totalled.the-variants as totalled
+
+abbrev pub totalsOf : List Particle → Totals
+totalsOf ps =
+    record {
+      mass = totalMass ps;
+      px = momentum alongX ps;
+      py = momentum alongY ps;
+      spin = angularMomentum ps;
+      motion = motion ps;
+    }
+
+abbrev pub totalsAnswer : ℕ → ℕ → List ℕ → Answer Totals
+totalsAnswer nx ny bytes = andThen (setAnswer nx ny bytes) (λ ps. result (totalsOf ps))
+
+abbrev pub toldTotalled : Totalled → Answer Totals
+toldTotalled (totalled.Sums t) = result t
+toldTotalled (totalled.Refused e) = refusedBy e

@@ -1,0 +1,171 @@
+//! The calls whose stack is measured: every operation, accepted and refused, on sets of every size.
+
+use compare::inputs::{self, Call};
+use compare::stream;
+use reference::generator::Generator;
+use reference::particle_set::pack_records;
+use reference::{Grid, Header, Particle, Settings, Size};
+use vectors::{Buffers, Operation};
+
+use super::table;
+
+/// Sizes of sets: the ends of each column of the table.
+const COUNTS: [usize; 11] = [0, 1, 2, 63, 64, 65, 511, 512, 513, 4095, 4096];
+
+/// Inputs of the comparison, for each operation.
+const INPUTS: u64 = 500;
+
+/// A set of particles at rest, and the buffers that go with it.
+#[derive(Clone)]
+struct Bath {
+    settings: Settings,
+    particles: Vec<Particle>,
+    /// Bytes after the last record.
+    more: usize,
+    nodes: usize,
+}
+
+impl Bath {
+    fn new(count: usize, side: i128) -> Self {
+        let size = Size::new(side, side);
+        let mut numbers = Generator::new(count as u64);
+        let mut place = || numbers.between(32, 64 * (side - 1) - 33);
+        let particle = |k| Particle::at_rest(15 * k as u16, 32, place(), place());
+        Bath {
+            settings: Settings::new(size, 0, 0),
+            particles: (0..count).map(particle).collect(),
+            more: 0,
+            nodes: size.nodes(),
+        }
+    }
+
+    /// The bath with one change.
+    fn with(&self, change: impl FnOnce(&mut Bath)) -> Bath {
+        let mut other = self.clone();
+        change(&mut other);
+        other
+    }
+
+    /// The bath, and others of which one thing is strained or broken, at the last place where it can be.
+    fn variants(&self) -> Vec<Bath> {
+        let last = |change: fn(&mut Particle)| {
+            self.with(|bath| bath.particles.last_mut().into_iter().for_each(change))
+        };
+        vec![
+            self.clone(),
+            self.with(|bath| bath.settings.gx = 4096),
+            self.with(|bath| bath.particles.iter_mut().for_each(|p| p.bxy = 2047)),
+            self.with(|bath| bath.particles.iter_mut().for_each(|p| p.vy = -63)),
+            self.with(|bath| bath.settings.gy = -4097),
+            self.with(|bath| bath.settings.size.nx = 3),
+            self.with(|bath| bath.settings.size.ny = 49),
+            self.with(|bath| bath.more = 1),
+            self.with(|bath| bath.nodes -= 1),
+            self.with(|bath| bath.particles.iter_mut().for_each(|p| p.mass = 1023)),
+            last(|p| p.mass = 0),
+            last(|p| p.vx = -64),
+            last(|p| p.byy = -2048),
+            last(|p| p.x = 4095),
+            self.with(|bath| bath.particles.iter_mut().for_each(|p| p.identifier = 9)),
+        ]
+    }
+
+    /// The records.
+    fn bytes(&self) -> Vec<u8> {
+        let mut bytes = pack_records(&self.particles);
+        bytes.resize(bytes.len() + self.more, 0);
+        bytes
+    }
+
+    /// The bath, whose records are these, as a file of so many steps.
+    fn file_of(&self, records: &[u8], steps: i128) -> Vec<u8> {
+        let header = Header {
+            settings: self.settings,
+            count: self.particles.len() as i128,
+            steps,
+        };
+        [&header.pack(0)[..], records].concat()
+    }
+
+    /// The bath as a file.
+    fn file(&self) -> Vec<u8> {
+        self.file_of(&self.bytes(), 3)
+    }
+
+    /// Every operation that takes a set or a grid.
+    fn calls(&self, mut each: impl FnMut(Operation, Buffers)) {
+        let Settings { size, .. } = self.settings;
+        let records = self.bytes();
+        let operations = [
+            Operation::CheckSet(size),
+            Operation::Totals(size),
+            Operation::Scatter(size),
+            Operation::Update(self.settings),
+            Operation::Gather(size),
+            Operation::Step(self.settings),
+            Operation::Run(self.settings, 0),
+            Operation::Run(self.settings, 1),
+            Operation::Run(self.settings, 3),
+            Operation::Run(self.settings, 10_001),
+        ];
+        for operation in operations {
+            // As masses with momenta, and as velocities: slow, and too fast for a particle.
+            for speed in [5, 20_000] {
+                let grid = Grid::filled(self.nodes, 3, speed, -speed);
+                let bytes = records.clone();
+                each(operation, Buffers { bytes, grid });
+            }
+        }
+        for steps in [3, 10_001] {
+            let bytes = self.file_of(&records, steps);
+            let grid = Grid::zero(0);
+            each(Operation::ReadFile, Buffers { bytes, grid });
+        }
+    }
+}
+
+/// The inputs of the comparison for each operation.
+const MADE: [fn(&mut Generator) -> Call; 12] = [
+    inputs::read_record,
+    inputs::write_record,
+    inputs::check_set,
+    inputs::totals,
+    inputs::weights,
+    inputs::scatter,
+    inputs::update,
+    inputs::gather,
+    inputs::step,
+    inputs::run,
+    inputs::read_file,
+    inputs::write_header,
+];
+
+/// All calls: baths of every size on the smallest and the largest grid, the vectors, and inputs of the
+/// comparison.
+pub fn all(mut each: impl FnMut(Operation, Buffers)) {
+    for count in COUNTS {
+        for side in [4, 48] {
+            for bath in Bath::new(count, side).variants() {
+                bath.calls(&mut each);
+            }
+        }
+    }
+    for case in vectors::cases() {
+        each(case.operation, case.before);
+    }
+    for (number, make) in MADE.iter().enumerate() {
+        for k in 0..INPUTS {
+            let (operation, buffers) = make(&mut stream(&format!("stack {number}"), k));
+            each(operation, buffers);
+        }
+    }
+}
+
+/// Files for the program, with their columns: a refused one, and those of every size.
+pub fn files() -> Vec<(usize, Vec<u8>)> {
+    let refused = Bath::new(1, 48)
+        .with(|bath| bath.settings.size.nx = 3)
+        .file();
+    let sizes = table::MOST.map(|count| (table::column(count), Bath::new(count, 48).file()));
+    [&[(0, refused)], &sizes[..]].concat()
+}

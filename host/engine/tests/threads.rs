@@ -1,0 +1,159 @@
+//! Calls on threads with little stack. Where one needs more than its thread has, the process ends.
+
+use std::thread;
+
+use engine::{
+    check_set, gather, read_file, run, scatter, step, totals, update, write_header, write_record,
+};
+use engine::{GridBuffers, Header, Limit, Particle, Refusal, Settings, Size};
+use engine::{HEADER_LENGTH, RECORD_LENGTH};
+
+/// Calls on a thread with so many kB of stack.
+fn with_stack<T: Send>(kilobytes: usize, calls: impl FnOnce() -> T + Send) -> T {
+    thread::scope(|scope| {
+        let thread = thread::Builder::new().stack_size(1000 * kilobytes);
+        let thread = thread.spawn_scoped(scope, calls).expect("a thread");
+        thread.join().expect("calls that return")
+    })
+}
+
+/// Particles at rest on the largest grid.
+struct Bath {
+    settings: Settings,
+    records: Vec<u8>,
+    mass: Vec<u64>,
+    velocity: [Vec<i64>; 2],
+}
+
+impl Bath {
+    fn new(count: usize) -> Self {
+        let size = Size { nx: 48, ny: 48 };
+        let nodes = size.nx * size.ny;
+        let mut records = vec![0; RECORD_LENGTH * count];
+        for (k, record) in records.chunks_exact_mut(RECORD_LENGTH).enumerate() {
+            let particle = Particle {
+                identifier: k as u16,
+                mass: 32,
+                x: 40 + 43 * (k as u64 % 64),
+                y: 40 + 43 * (k as u64 / 64),
+                ..Particle::default()
+            };
+            write_record(&particle, record).expect("a particle in range");
+        }
+        Bath {
+            settings: Settings { size, gx: 0, gy: 0 },
+            records,
+            mass: vec![0; nodes],
+            velocity: [vec![0; nodes], vec![0; nodes]],
+        }
+    }
+
+    /// Every operation on the set; of a run, so many steps.
+    fn calls(&mut self, steps: usize) -> Result<(), Refusal> {
+        let Bath {
+            settings,
+            records,
+            mass,
+            velocity: [x, y],
+        } = self;
+        let (settings, size) = (*settings, settings.size);
+        let ran = run(settings, steps, records, &mut GridBuffers { mass, x, y });
+        assert_eq!(ran.completed, steps, "{:?}", ran.refusal);
+        check_set(size, records)?;
+        totals(size, records)?;
+        scatter(size, records, &mut GridBuffers { mass, x, y })?;
+        update(settings, &mut GridBuffers { mass, x, y })?;
+        gather(size, records, x, y)?;
+        step(settings, records, &mut GridBuffers { mass, x, y })
+    }
+
+    /// Every operation refuses the set, with this limit.
+    fn refusals(&mut self, limit: Limit) {
+        let Bath {
+            settings,
+            records,
+            mass,
+            velocity: [x, y],
+        } = self;
+        let (settings, size) = (*settings, settings.size);
+        let grid = &mut GridBuffers { mass, x, y };
+        let refusals = [
+            run(settings, 0, records, grid).refusal,
+            run(settings, 9, records, grid).refusal,
+            step(settings, records, grid).err(),
+            scatter(size, records, grid).err(),
+            gather(size, records, grid.x, grid.y).err(),
+            check_set(size, records).err(),
+            totals(size, records).err(),
+        ];
+        for refusal in refusals {
+            assert_eq!(refusal.map(|refusal| refusal.limit), Some(limit));
+        }
+    }
+
+    /// The bath as a file.
+    fn file(&self) -> Vec<u8> {
+        let header = Header {
+            size: self.settings.size,
+            gx: self.settings.gx,
+            gy: self.settings.gy,
+            count: self.records.len() / RECORD_LENGTH,
+            steps: 9,
+        };
+        let mut file = vec![0; HEADER_LENGTH];
+        write_header(&header, &mut file).expect("a header in range");
+        file.extend(&self.records);
+        file
+    }
+}
+
+#[test]
+fn refused_calls() {
+    for count in [0, 1, 64, 512, 4096] {
+        let mut bath = Bath::new(count);
+        with_stack(64, || {
+            bath.settings.size.nx = 3;
+            bath.refusals(Limit::GridSize);
+            bath.settings.size.nx = 48;
+            bath.records.push(0);
+            bath.refusals(Limit::Length);
+            bath.records.pop();
+            if let Some(last) = bath.records.chunks_exact_mut(RECORD_LENGTH).last() {
+                let off_the_grid = Particle {
+                    x: 4095,
+                    ..engine::read_record(last).expect("a record")
+                };
+                write_record(&off_the_grid, last).expect("a particle in range");
+                bath.refusals(Limit::Position);
+            }
+        });
+    }
+}
+
+#[test]
+fn empty_and_small_sets() {
+    for count in [0, 1, 64] {
+        let mut bath = Bath::new(count);
+        let file = bath.file();
+        let calls = || {
+            bath.calls(0)?;
+            bath.calls(9)?;
+            read_file(&file)
+        };
+        assert!(with_stack(64, calls).is_ok(), "{count}");
+    }
+}
+
+#[test]
+fn the_largest_set() {
+    for count in [512, 4096] {
+        let mut bath = Bath::new(count);
+        let file = bath.file();
+        let calls = || {
+            bath.calls(0)?;
+            bath.calls(3)?;
+            read_file(&file)
+        };
+        assert!(with_stack(256, calls).is_ok(), "{count}");
+    }
+}
