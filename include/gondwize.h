@@ -25,9 +25,9 @@
  * by its particles and not as refused.
  *
  *     kB                        refused        0        1    to 64   to 512 to 4,096
- *     gondwize_run                  2.9      3.9      3.9      3.9     22.6    151.7
- *     gondwize_run, no step         2.9      3.5      3.5      3.5     22.2    151.2
- *     gondwize_step                 2.8      3.9      3.9      3.9     22.6    151.6
+ *     gondwize_run                  3.0      4.0      4.0      4.0     22.7    151.8
+ *     gondwize_run, no step         3.0      3.6      3.6      3.6     22.3    151.3
+ *     gondwize_step                 2.9      4.0      4.0      4.0     22.7    151.7
  *     gondwize_scatter              1.8      1.9      1.9      1.9      1.9      1.9
  *     gondwize_update               0.2      0.2
  *     gondwize_gather               1.5      3.5      3.5      3.5     77.4     77.4

@@ -1,5 +1,5 @@
 -- Bounds of the numbers in a step of a set within its limits, for every D within its own: they hold of every prefix of the set too.
---     Near                    a node with a weight is at most 96 away along the axis
+--     Near                    a node with a weight is at most mostApart away along the axis
 --     spread-whole            a D within its limits is a multiple of 256
 --     mostMomentum            63·D + 393,024: 457,536 for the spline, at most 586,560
 --     Limited                 what the bounds use of a set: each particle's limits, and the total mass
@@ -28,6 +28,7 @@ use Rattle.arith.specs.Size.{Bound, sizes, bounded-by, bound-pos, bound-fits, b
 use Rattle.arith.specs.Rounding.{Nearest, near-bound}
 use Rattle.arith.specs.Lists.{each-prefix, total-prefix}
 use Rattle.arith.specs.Sums.{Each, sum-scale, sum-within}
+use Rattle.limits.specs.Limits.{mostVelocity, mostAffine, mostTotalMass, mostNodeMass, mostNodeVelocity, mostGravity}
 use Rattle.spline.specs.Spline.{displacement}
 use Rattle.spline.specs.Kernel.{leastD, mostD, Spread}
 use Rattle.particle.specs.declared.Particle.{Particle}
@@ -39,8 +40,12 @@ use Rattle.apic.proofs.Placed.{Placed, Whole}
 use Rattle.apic.proofs.Scatter.{carried, scatter-mass}
 use Rattle.apic.proofs.Update.{updated, share-nonneg, node-mass-nonneg, massless, product-positive}
 
+-- how far apart a particle and a node with a weight are at most, along an axis: one and a half times the spacing
+abbrev pub mostApart : ℕ
+mostApart = 96
+
 abbrev pub Near : (ℕ → ℕ → ℤ) → Type 0
-Near w = (x i : ℕ) → (w x i ≡ pos 0) ⊎ Within (pos 96) (displacement x i)
+Near w = (x i : ℕ) → (w x i ≡ pos 0) ⊎ Within (pos mostApart) (displacement x i)
 
 pub spread-whole : {D : ℕ} → Spread D → Whole D
 spread-whole {D} h =
@@ -50,23 +55,23 @@ spread-whole {D} h =
 
 -- what a particle brings to a node at most, for each unit of weighted mass: 63·D + 2·2047·96
 abbrev pub mostMomentum : ℕ → ℕ
-mostMomentum D = 63 * D + 393024
+mostMomentum D = mostVelocity * D + 2 * mostAffine * mostApart
 
 pub record Limited (nx ny : ℕ) (ps : List Particle) : Type 0 where
   pub each : Each (ParticleLimits nx ny) ps
-  pub mass : totalMass ps ≤ 131072
+  pub mass : totalMass ps ≤ mostTotalMass
 
 -- what the update asks of a node, and what the sums need to fit
 pub record NodeLimits (w : ℕ → ℕ → ℤ) (D : ℕ) (ps : List Particle) (i j : ℕ) : Type 0 where
   pub mass-least : pos 0 ≤ℤ nodeMass w ps i j
-  pub mass-most : nodeMass w ps i j ≤ℤ pos (2 ^ 43)
-  pub momentum-most : (a : Axis) → Bound (nodeMomentum w D a ps i j) (mostMomentum D * 2 ^ 43)
+  pub mass-most : nodeMass w ps i j ≤ℤ pos mostNodeMass
+  pub momentum-most : (a : Axis) → Bound (nodeMomentum w D a ps i j) (mostMomentum D * mostNodeMass)
   pub no-momentum : (a : Axis) → nodeMass w ps i j ≡ pos 0 → nodeMomentum w D a ps i j ≡ pos 0
 
-pub momentum-fits : {D : ℕ} {z : ℤ} → Spread D → Bound z (mostMomentum D * 2 ^ 43) → SFits w64 z
+pub momentum-fits : {D : ℕ} {z : ℤ} → Spread D → Bound z (mostMomentum D * mostNodeMass) → SFits w64 z
 momentum-fits {D} h b = bound-fits b (below (h .most))
   where
-    below : D ≤ mostD → mostMomentum D * 2 ^ 43 < 2 ^ 63
+    below : D ≤ mostD → mostMomentum D * mostNodeMass < 2 ^ 63
     below h = omega arith
 
 -- ---- prefixes
@@ -82,15 +87,15 @@ limited-take {nx} {ny} k ps h = limited-prefix (take k ps) (drop k ps) (subst (L
 
 -- ---- what a particle brings to a node
 
-near-product : (D : ℕ) (v bx by dx dy : ℤ) → natAbs v ≤ 63 → natAbs bx ≤ 2047 → natAbs by ≤ 2047 → Within (pos 96) dx → Within (pos 96) dy → Within (pos (mostMomentum D)) (pos D *ℤ v +ℤ bx *ℤ dx +ℤ by *ℤ dy)
+near-product : (D : ℕ) (v bx by dx dy : ℤ) → natAbs v ≤ mostVelocity → natAbs bx ≤ mostAffine → natAbs by ≤ mostAffine → Within (pos mostApart) dx → Within (pos mostApart) dy → Within (pos (mostMomentum D)) (pos D *ℤ v +ℤ bx *ℤ dx +ℤ by *ℤ dy)
 near-product D v bx by dx dy h k l near-x near-y =
     let bound-D : Bound (pos D) D = bound-pos (le-refl D) in
-    let bound-v : Bound v 63 = record { size = h } in
-    let bound-x : Bound bx 2047 = record { size = k } in
-    let bound-y : Bound by 2047 = record { size = l } in
+    let bound-v : Bound v mostVelocity = record { size = h } in
+    let bound-x : Bound bx mostAffine = record { size = k } in
+    let bound-y : Bound by mostAffine = record { size = l } in
     bound-within (bounded-by (search sizes depth 20) (omega arith))
 
-carried-within : (D nx ny : ℕ) (p : Particle) → ParticleLimits nx ny p → (a : Axis) (i j : ℕ) → Within (pos 96) (apart alongX p i j) → Within (pos 96) (apart alongY p i j) → Within (pos (mostMomentum D)) (carried D a p i j)
+carried-within : (D nx ny : ℕ) (p : Particle) → ParticleLimits nx ny p → (a : Axis) (i j : ℕ) → Within (pos mostApart) (apart alongX p i j) → Within (pos mostApart) (apart alongY p i j) → Within (pos (mostMomentum D)) (carried D a p i j)
 carried-within D nx ny p h alongX i j k l =
     near-product D (p .vx) (p .bxx) (p .bxy) (apart alongX p i j) (apart alongY p i j) (h .vx) (h .bxx) (h .bxy) k l
 carried-within D nx ny p h alongY i j k l =
@@ -120,9 +125,9 @@ divided D M h = le-trans (mul-le-mul-right M (by-unit D (h .least) (h .whole))) 
     by-unit : (D : ℕ) → leastD ≤ D → D % 256 ≡ 0 → mostMomentum D ≤ mostUnforced * (D / 256)
     by-unit D h e = omega arith
 
-velocity-within : (round : ℤ → ℕ → ℤ) → Nearest round → (D : ℕ) → Spread D → (g : ℤ) → Within (pos 4096) g → (M : ℕ) (p : ℤ) → Within (pos (mostMomentum D) *ℤ pos M) p → Within (pos 131072) (nodeVelocity round D g M p)
+velocity-within : (round : ℤ → ℕ → ℤ) → Nearest round → (D : ℕ) → Spread D → (g : ℤ) → Within (pos mostGravity) g → (M : ℕ) (p : ℤ) → Within (pos (mostMomentum D) *ℤ pos M) p → Within (pos mostNodeVelocity) (nodeVelocity round D g M p)
 unfolding nodeVelocity
-velocity-within round nearest D spread g h zero p l = within-zero (pos-nonneg 131072)
+velocity-within round nearest D spread g h zero p l = within-zero (pos-nonneg mostNodeVelocity)
 velocity-within round nearest D spread g h (suc M) p l =
     within-widen (pos-mono (omega arith))
     (within-sum
@@ -153,10 +158,10 @@ module _ (w : ℕ → ℕ → ℤ) (near : Near w) (D nx ny : ℕ) where
         (≤ℤ-of-eq (scatter-mass w D nx ny ps on))
 
     module _ (limits : Limited nx ny ps) where
-      node-mass-most : (i j : ℕ) → i < nx → j < ny → nodeMass w ps i j ≤ℤ pos (2 ^ 43)
+      node-mass-most : (i j : ℕ) → i < nx → j < ny → nodeMass w ps i j ≤ℤ pos mostNodeMass
       node-mass-most i j in-x in-y = ≤ℤ-trans (node-mass-total i j in-x in-y) (pos-mono (total (totalMass ps) (limits .mass)))
         where
-          total : (m : ℕ) → m ≤ 131072 → 2 ^ 26 * m ≤ 2 ^ 43
+          total : (m : ℕ) → m ≤ mostTotalMass → 2 ^ 26 * m ≤ mostNodeMass
           total m h = omega arith
 
       pub node-momentum-within : (a : Axis) (i j : ℕ) → Within (pos (mostMomentum D) *ℤ nodeMass w ps i j) (nodeMomentum w D a ps i j)
@@ -184,7 +189,7 @@ module _ (w : ℕ → ℕ → ℤ) (near : Near w) (D nx ny : ℕ) where
 
       -- ---- the updated velocity
 
-      pub updated-within : Spread D → (round : ℤ → ℕ → ℤ) → Nearest round → (g : ℤ) → Within (pos 4096) g → (a : Axis) (i j : ℕ) → Within (pos 131072) (updated round w D g a ps i j)
+      pub updated-within : Spread D → (round : ℤ → ℕ → ℤ) → Nearest round → (g : ℤ) → Within (pos mostGravity) g → (a : Axis) (i j : ℕ) → Within (pos mostNodeVelocity) (updated round w D g a ps i j)
       updated-within spread round nearest g h a i j =
           velocity-within round nearest D spread g h (natAbs (nodeMass w ps i j)) (nodeMomentum w D a ps i j)
           (subst (λ M. Within (pos (mostMomentum D) *ℤ M) (nodeMomentum w D a ps i j)) (nonneg-pos (node-mass-nonneg w D nx ny ps on i j)) (node-momentum-within a i j))

@@ -1,28 +1,45 @@
 -- A kernel's weights are an instance of the laws' weights.
+--     Lawful             what the laws of a step use of weights and their D
+--     lawful-updated     then an updated velocity is within its limit
 --     kernel-placed      a particle on the grid is placed
---     kernel-near        a node with a weight is at most 96 away
+--     kernel-lawful      a kernel's weights are lawful
 --     kernel-mass-nonneg, kernel-mass
 --                        a node's mass is not negative, and at most 2^26 times the total mass
 --     kernel-momentum    a node's momentum is at most mostMomentum·2^26 times the total mass
 -- Assumes nothing.
 use mathlib.Core.List.{List}
 use Prim.Native.Nat.{ℕ, _*_, _^_, _<_}
-use lib.IntN.{pos}
+use lib.IntN.{ℤ, pos}
 use lib.Signed.{_≤ℤ_}
-use Rattle.arith.specs.Order.{within-of}
+use Rattle.arith.specs.Order.{Within, within-of}
 use Rattle.arith.specs.Size.{Bound, within-bound}
+use Rattle.arith.specs.Rounding.{Nearest}
 use Rattle.arith.specs.Sums.{Each, each-map}
-use Rattle.spline.specs.Kernel.{weightIn, Kernel}
+use Rattle.limits.specs.Limits.{mostNodeVelocity, mostGravity}
+use Rattle.spline.specs.Kernel.{weightIn, Spread, Kernel}
 use Rattle.spline.proofs.Axis.{near, moments}
 use Rattle.particle.specs.declared.Particle.{Particle}
 use Rattle.apic.specs.Step.{Axis, nodeMass, nodeMomentum}
 use Rattle.apic.specs.Totals.{totalMass}
 use Rattle.apic.specs.Limits.{ParticleLimits}
 use Rattle.apic.proofs.Placed.{Placed}
-use Rattle.apic.proofs.Update.{node-mass-nonneg}
-use Rattle.apic.proofs.Bounds.{Near, Limited, mostMomentum, node-mass-total, node-momentum-total}
+use Rattle.apic.proofs.Update.{updated, node-mass-nonneg}
+use Rattle.apic.proofs.Bounds.{Near, Limited, mostMomentum, node-mass-total, node-momentum-total, updated-within}
 
-pub kernel-near : (table : List (List ℕ)) → Near (weightIn table)
+pub record Lawful (w : ℕ → ℕ → ℤ) (D : ℕ) : Type 0 where
+  pub spread : Spread D
+  -- a node with a weight is near
+  pub near : Near w
+  -- a particle on the grid is placed
+  pub placed : (nx ny : ℕ) (ps : List Particle) → Each (ParticleLimits nx ny) ps → Each (Placed w D nx ny) ps
+
+pub lawful-updated : {w : ℕ → ℕ → ℤ} {D : ℕ} → Lawful w D → (nx ny : ℕ) (ps : List Particle) → Limited nx ny ps → (round : ℤ → ℕ → ℤ) → Nearest round → (g : ℤ) → Within (pos mostGravity) g → (a : Axis) (i j : ℕ) → Within (pos mostNodeVelocity) (updated round w D g a ps i j)
+lawful-updated {w} {D} law nx ny ps limits =
+    updated-within w (law .near) D nx ny ps (law .placed nx ny ps (limits .each)) limits (law .spread)
+
+-- ---- a kernel
+
+kernel-near : (table : List (List ℕ)) → Near (weightIn table)
 kernel-near table x i = near table x i
 
 module _ {table : List (List ℕ)} {D : ℕ} (kernel : Kernel table D) (nx ny : ℕ) (ps : List Particle) where
@@ -44,3 +61,6 @@ module _ {table : List (List ℕ)} {D : ℕ} (kernel : Kernel table D) (nx ny : 
     pub kernel-momentum : (a : Axis) → Bound (nodeMomentum (weightIn table) D a ps i j) (mostMomentum D * (2 ^ 26 * totalMass ps))
     kernel-momentum a =
         node-momentum-total (weightIn table) (kernel-near table) D nx ny ps (kernel-placed (limits .each)) limits a i j in-x in-y
+
+pub kernel-lawful : {table : List (List ℕ)} {D : ℕ} → Kernel table D → Lawful (weightIn table) D
+kernel-lawful {table} kernel = record { spread = kernel .spread; near = kernel-near table; placed = kernel-placed kernel }

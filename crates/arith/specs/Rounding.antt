@@ -7,12 +7,11 @@
 --     nearest-error                 nearest is one, for every rule
 --     nearest-unique, nearest-exact only r is less than a half away; a multiple of d is not rounded
 --     nearest-bound                 |n| ≤ k·d gives |r| ≤ k
---     rounded-error, rounded-exact, rounded-bound
---                                   these three for the rule in use
+--     rounded-error, rounded-bound  both for the rule in use
 --     away-above, away-below        rounded: 2·(d·r - n) is above -d where n ≥ 0, below d where n < 0
 --     nearest-pos, nearest-neg      .. by magnitudes: (2·a + d) / (2·d), with the sign of n
 --     nearest-odd                   .. of -n, the negative of that of n
---     nearest-half, nearest-half-neg               .. with d = 2·h, by magnitudes: (a + h) / (2·h)
+--     nearest-size, nearest-size-neg               .. by magnitudes, in smaller numbers: (a + d / 2) / d
 --     nearest-shift, -up, -down                    .. with d = 2·h, by the shift that rounds down: of n + h, less one where n < 0
 -- Assumes nothing.
 use mathlib.Core.Path.{_≡_, refl, sym, ap, _∙_, subst}
@@ -168,9 +167,6 @@ nearest-bound rule = near-bound (nearest rule) (nearest-error rule)
 pub rounded-error : Nearest rounded
 rounded-error = nearest-error halvesAway
 
-pub rounded-exact : (k : ℤ) (d : ℕ) → zero < d → rounded (pos d *ℤ k) d ≡ k
-rounded-exact = nearest-exact halvesAway
-
 pub rounded-bound : (n : ℤ) (d k : ℕ) → zero < d → Bound n (k * d) → Bound (rounded n d) k
 rounded-bound = nearest-bound halvesAway
 
@@ -220,6 +216,15 @@ pub nearest-odd : (n : ℤ) (d : ℕ) → zero < d → rounded (negℤ n) d ≡ 
 nearest-odd (pos a) d h = nearest-neg a d h ∙ ap negℤ (sym (nearest-pos a d h))
 nearest-odd (negsuc a) d h = nearest-pos (suc a) d h ∙ sym (negℤ-negℤ (pos ((2 * suc a + d) / (2 * d)))) ∙ ap negℤ (sym (nearest-neg (suc a) d h))
 
+pub nearest-size : (a d : ℕ) → zero < d → rounded (pos a) d ≡ pos ((a + d / 2) / d)
+nearest-size a d h =
+    sym (floor-unique (pos (a + d / 2)) (rounded (pos a) d) d h
+    (linear (rounded (pos a) d ∷ []) (rounded-error (pos a) d h) (search reading depth 30) (omega arith))
+    (linear (rounded (pos a) d ∷ []) (away-above (pos a) d h (pos-nonneg a)) (search reading depth 30) (omega arith)))
+
+pub nearest-size-neg : (a d : ℕ) → zero < d → rounded (negℤ (pos a)) d ≡ negℤ (pos ((a + d / 2) / d))
+nearest-size-neg a d h = nearest-odd (pos a) d h ∙ ap negℤ (nearest-size a d h)
+
 -- ---- by an even divisor
 
 pub nearest-shift-up : (n : ℤ) (h : ℕ) → zero < h → pos 0 ≤ℤ n → rounded n (2 * h) ≡ shrZ (n +ℤ pos h) (2 * h)
@@ -237,9 +242,3 @@ nearest-shift-down n h p l =
 pub nearest-shift : (n : ℤ) (h : ℕ) → zero < h → rounded n (2 * h) ≡ shrZ (n +ℤ pos h -ℤ cond (nonNeg n) (pos 0) (pos 1)) (2 * h)
 nearest-shift (pos a) h p = nearest-shift-up (pos a) h p (pos-nonneg a) ∙ ap (λ z. shrZ z (2 * h)) (sym (+ℤ-idr (pos (a + h))))
 nearest-shift (negsuc a) h p = nearest-shift-down (negsuc a) h p (ltZ-yes tt)
-
-pub nearest-half : (a h : ℕ) → zero < h → rounded (pos a) (2 * h) ≡ pos ((a + h) / (2 * h))
-nearest-half a h p = nearest-shift-up (pos a) h p (pos-nonneg a)
-
-pub nearest-half-neg : (a h : ℕ) → zero < h → rounded (negℤ (pos a)) (2 * h) ≡ negℤ (pos ((a + h) / (2 * h)))
-nearest-half-neg a h p = nearest-odd (pos a) (2 * h) (omega arith) ∙ ap negℤ (nearest-half a h p)

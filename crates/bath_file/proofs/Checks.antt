@@ -1,5 +1,6 @@
 -- The checks of a header's values, as facts, whatever comes after them.
 --     Valid             every value of a header is within its limits
+--     header-checked    the answer, by what each check finds
 --     valid, passes     a header passes its checks where it is valid, and only there
 --     refuses           a header that is refused is refused alike before any rest
 -- Assumes nothing.
@@ -24,6 +25,10 @@ pub record Valid (h : Header) : Type 0 where
   pub count-to : h .count ≤ mostRecords
   pub steps-to : h .steps ≤ mostSteps
 
+-- the checks in their order: size, gravity, count, steps
+abbrev pub checked : {A : Type 0} → Bool → Bool → Bool → Bool → Answer A → Answer A
+checked s g c t rest = refuseIf (not s) 2 0 (refuseIf (not g) 10 0 (refuseIf c 3 0 (refuseIf t 17 0 rest)))
+
 module _ (h : Header) where
   abbrev gravity : Bool
   gravity = validGravity (h .gx) && validGravity (h .gy)
@@ -46,21 +51,21 @@ module _ (h : Header) where
         t .1,
       )
 
-  pub passes : {A : Type 0} (rest : Answer A) → Valid h → checkedHeader h rest ≡ rest
+  pub header-checked : {A : Type 0} (rest : Answer A) {s g c t : Bool} → validSize (h .nx) (h .ny) ≡ s → gravity ≡ g → ltb mostRecords (h .count) ≡ c → ltb mostSteps (h .steps) ≡ t → checkedHeader h rest ≡ checked s g c t rest
   unfolding checkedHeader
+  header-checked rest s g c t = λ i. checked (s i) (g i) (c i) (t i) rest
+
+  pub passes : {A : Type 0} (rest : Answer A) → Valid h → checkedHeader h rest ≡ rest
   passes rest v =
-      four (validSize (h .nx) (h .ny)) gravity (ltb mostRecords (h .count)) (ltb mostSteps (h .steps)) (v .size) (two-within-back mostGravity (h .gx) (h .gy) (v .gx-to) (v .gy-to)) (le-ltb mostRecords (h .count) (v .count-to)) (le-ltb mostSteps (h .steps) (v .steps-to))
-    where
-      four : (s g c t : Bool) → s ≡ true → g ≡ true → c ≡ false → t ≡ false → refuseIf (not s) 2 0 (refuseIf (not g) 10 0 (refuseIf c 3 0 (refuseIf t 17 0 rest))) ≡ rest
-      four s g c t p q r u = rw (p, q, r, u)
+      header-checked rest (v .size) (two-within-back mostGravity (h .gx) (h .gy) (v .gx-to) (v .gy-to)) (le-ltb mostRecords (h .count) (v .count-to)) (le-ltb mostSteps (h .steps) (v .steps-to))
 
   pub refuses : {A B : Type 0} (a : A) (rest : Answer B) {n k : ℕ} → checkedHeader h (result a) ≡ refused n k → checkedHeader h rest ≡ refused n k
   unfolding checkedHeader
-  refuses a rest e = four (not (validSize (h .nx) (h .ny))) (not gravity) (ltb mostRecords (h .count)) (ltb mostSteps (h .steps)) e
+  refuses a rest e = four (validSize (h .nx) (h .ny)) gravity (ltb mostRecords (h .count)) (ltb mostSteps (h .steps)) e
     where
-      four : (s g c t : Bool) {n k : ℕ} → refuseIf s 2 0 (refuseIf g 10 0 (refuseIf c 3 0 (refuseIf t 17 0 (result a)))) ≡ refused n k → refuseIf s 2 0 (refuseIf g 10 0 (refuseIf c 3 0 (refuseIf t 17 0 rest))) ≡ refused n k
-      four true g c t e = same-refusal e
-      four false true c t e = same-refusal e
-      four false false true t e = same-refusal e
-      four false false false true e = same-refusal e
-      four false false false false e = not-refused e
+      four : (s g c t : Bool) {n k : ℕ} → checked s g c t (result a) ≡ refused n k → checked s g c t rest ≡ refused n k
+      four false g c t e = same-refusal e
+      four true false c t e = same-refusal e
+      four true true true t e = same-refusal e
+      four true true false true e = same-refusal e
+      four true true false false e = not-refused e

@@ -1,6 +1,6 @@
-pub mod Bytes
 pub mod Checks
 pub mod Answers
 pub mod RoundTrip
 pub mod Records
 pub mod Example
+pub mod Fields

@@ -19,7 +19,7 @@ use Rattle.limits.specs.Limits.{mostRecords}
 use Rattle.particle.specs.declared.Particle.{Particle}
 use Rattle.particle.specs.Layout.{recordLength}
 use Rattle.particle.specs.Record.{readAnswer}
-use Rattle.particles.specs.Set.{setLength, validLength, recordAt, recordCount, recordsOf, admitted, setFrom, setOf, setAnswer}
+use Rattle.particles.specs.Set.{setLength, validLength, recordAt, recordCount, recordsOf, checkedParticle, setFrom, setOf, setAnswer}
 use Rattle.particles.proofs.Checks.{counted, entered, good-entry}
 use Rattle.particles.proofs.Accepted.{accepted-records, limits-accepted, records-length}
 use Rattle.bath_file.specs.declared.Header.{Header}
@@ -39,7 +39,7 @@ module _ (nx ny start : ℕ) (bytes : List ℕ) where
   moved zero k least mass = refl
   moved (suc left) k least mass =
       ap₂ andThen (ap (readAnswer k) (same-record k))
-      (λ i p. andThen (admitted nx ny k least mass p) (λ q. andThen (moved left (suc k) (suc (q .identifier)) (mass + q .mass) i) (λ ps. result (q ∷ ps))))
+      (λ i p. andThen (checkedParticle nx ny k least mass p) (λ q. andThen (moved left (suc k) (suc (q .identifier)) (mass + q .mass) i) (λ ps. result (q ∷ ps))))
 
 module _ (bytes : List ℕ) (h : Header) where
   abbrev behind : List ℕ

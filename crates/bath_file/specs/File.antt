@@ -9,7 +9,7 @@ use lib.ListN.{length, take}
 use Rattle.refusal.specs.Refused.{Answer, result, refusedBy, refuseIf, andThen, keptUnless}
 use Rattle.limits.specs.Limits.{mostRecords, mostSteps, validGravity}
 use Rattle.particle.specs.Layout.{recordLength}
-use Rattle.particles.specs.Set.{validSize, setOf}
+use Rattle.particles.specs.Set.{setLength, validSize, setOf}
 use Rattle.bath_file.specs.declared.Header.{Header}
 use Rattle.bath_file.specs.declared.FileRead.{FileRead}
 use Rattle.bath_file.specs.declared.FileRead.the-variants as read
@@ -69,6 +69,10 @@ unfoldable pub recordsAnswer : Header → List ℕ → Answer Header
 recordsAnswer h bytes =
     refuseIf (not (eqb (length bytes) (headerLength + recordLength * h .count))) 1 0
     (andThen (setOf (h .nx) (h .ny) headerLength bytes (h .count)) (λ _. result h))
+
+-- one byte more than the longest file that is accepted
+abbrev pub roomForFile : ℕ
+roomForFile = headerLength + setLength + 1
 
 -- the whole list; the result is the header's values
 abbrev pub fileAnswer : List ℕ → Answer Header

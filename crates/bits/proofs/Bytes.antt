@@ -11,7 +11,7 @@ use native.Mathlib.Omega.{arith}
 use mathlib.Core.Path.{_≡_, refl, sym, ap, ap₂, subst, _∙_}
 use mathlib.Core.List.{List, [], _∷_, _++_, append-nil, append-assoc}
 use lib.ListN.{length, getD, take, drop, replicate, length-append, length-drop, length-replicate, replicate-append-replicate, drop-of-length-le, take-append-drop}
-use lib.Seq.{length-take-le, drop-cons, take-append-le, take-at, getD-drop}
+use lib.Seq.{length-take-le, drop-cons, drop-at, getD-drop}
 use lib.Pow.{pow-pos, pow-add, pow-mono, high, low, shr-shr, field, mod-mod-pow}
 use Rattle.bits.specs.Bits.{total, cut, join}
 use Rattle.bits.specs.Internal.{wordAt, wordBytes, stored}
@@ -138,22 +138,41 @@ module _ (n t s w : ℕ) {word low : ℕ} (p : word ≡ n / 2 ^ t % 2 ^ 64) (q :
       ∙ mod-eq-of-lt (lt-of-lt-of-le (mod-lt (n / 2 ^ t / 2 ^ s) (pow-pos w)) (pow-mono {j = 16} h))
       ∙ ap (λ m. m % 2 ^ w) (shr-shr n t s)
 
--- ---- two words in a buffer of b bytes more than one has: the second is stored over the end of the first
+-- ---- two words in a buffer of b bytes more than one has: the first is stored over the beginning of the second, whose bytes
+-- that stay are the last b
 
-pub two-words : (b : ℕ) → b ≤ 8 → (n : ℕ) (l : List ℕ) → length l ≡ b + 8 → stored (wordBytes (n % 2 ^ 64)) (stored (wordBytes (n / 2 ^ (8 * b))) l 0) b ≡ cut (replicate (b + 8) 8) n
+pub two-words : (b : ℕ) → b ≤ 8 → (n : ℕ) (l : List ℕ) → length l ≡ b + 8 → stored (wordBytes (n / 2 ^ (8 * b))) (stored (wordBytes (n % 2 ^ (8 * b))) l b) 0 ≡ cut (replicate (b + 8) 8) n
 two-words b h n l long =
-    let first = wordBytes (n / 2 ^ (8 * b)) in
-    let inner = first ++ drop 8 l in
-    let inner-long : length inner ≤ b + 8 = le-of-eq (length-append first (drop 8 l) ∙ ap (λ k. 8 + k) (length-drop 8 l) ∙ omega arith) in
-    ap₂ (λ f r. f ++ wordBytes (n % 2 ^ 64) ++ r) (take-append-le b first (drop 8 l) h ∙ front) (drop-of-length-le inner inner-long)
-    ∙ append-nil (cut (replicate b 8) (n / 2 ^ 64) ++ wordBytes (n % 2 ^ 64))
-    ∙ ap (λ w. cut (replicate b 8) (n / 2 ^ 64) ++ w) (cut-mod (replicate 8 8) n)
-    ∙ sym (cut-append (replicate b 8) (replicate 8 8) n)
-    ∙ ap (λ ws. cut ws n) (replicate-append-replicate b 8 8)
+    ap (λ r. wordBytes (n / 2 ^ (8 * b)) ++ r) (ap (drop 8) split ∙ drop-at (take b l ++ high) low 8 high-end ∙ low-is)
+    ∙ ap (λ t. cut (replicate 8 8) (n / 2 ^ t) ++ cut (replicate b 8) n) (sym (total-bytes b))
+    ∙ sym (cut-append (replicate 8 8) (replicate b 8) n)
+    ∙ ap (λ ws. cut ws n) (replicate-append-replicate 8 b 8 ∙ ap (λ k. replicate k 8) {x = 8 + b} {y = b + 8} (omega arith))
   where
-    front : take b (wordBytes (n / 2 ^ (8 * b))) ≡ cut (replicate b 8) (n / 2 ^ 64)
-    front =
-        ap (λ ws. take b (cut ws (n / 2 ^ (8 * b)))) (ap (λ k. replicate k 8) {x = 8} {y = b + (8 - b)} (omega arith) ∙ sym (replicate-append-replicate b (8 - b) 8))
-        ∙ ap (take b) (cut-append (replicate b 8) (replicate (8 - b) 8) (n / 2 ^ (8 * b)))
-        ∙ take-at (cut (replicate b 8) _) _ b (cut-length (replicate b 8) _ ∙ length-replicate b 8)
-        ∙ ap (cut (replicate b 8)) (ap (λ t. n / 2 ^ (8 * b) / 2 ^ t) (total-bytes (8 - b)) ∙ shr-shr n (8 * b) (8 * (8 - b)) ∙ ap (λ t. n / 2 ^ t) {y = 64} (omega arith))
+    rest : ℕ
+    rest = n % 2 ^ (8 * b)
+
+    high : List ℕ
+    high = cut (replicate (8 - b) 8) (rest / 2 ^ total (replicate b 8))
+
+    low : List ℕ
+    low = cut (replicate b 8) rest
+
+    two-parts : wordBytes rest ≡ high ++ low
+    two-parts =
+        ap (λ ws. cut ws rest) (ap (λ k. replicate k 8) {x = 8} {y = 8 - b + b} (omega arith) ∙ sym (replicate-append-replicate (8 - b) b 8))
+        ∙ cut-append (replicate (8 - b) 8) (replicate b 8) rest
+
+    split : take b l ++ wordBytes rest ++ drop (b + 8) l ≡ (take b l ++ high) ++ low
+    split =
+        ap₂ (λ w r. take b l ++ w ++ r) two-parts (drop-of-length-le l (le-of-eq long))
+        ∙ append-nil (take b l ++ (high ++ low))
+        ∙ sym (append-assoc (take b l) high low)
+
+    high-end : length (take b l ++ high) ≡ 8
+    high-end =
+        length-append (take b l) high
+        ∙ ap₂ _+_ (length-take-le b l (omega arith)) (cut-length (replicate (8 - b) 8) _ ∙ length-replicate (8 - b) 8)
+        ∙ omega arith
+
+    low-is : low ≡ cut (replicate b 8) n
+    low-is = ap (λ t. cut (replicate b 8) (n % 2 ^ t)) (sym (total-bytes b)) ∙ cut-mod (replicate b 8) n

@@ -5,7 +5,7 @@ use native.Mathlib.Nat.{le-refl, add-mod-right, mod-eq-of-lt}
 use native.Mathlib.Omega.{arith}
 use native.Mathlib.Decide.{decLt}
 use mathlib.Core.Logic.{_⊎_, inl, inr, ⊎-elim}
-use mathlib.Core.Path.{_≡_, refl, ap, _∙_}
+use mathlib.Core.Path.{_≡_, refl, sym, ap, ap₂, _∙_}
 use borrow.Author.Tests.{lt-ltb, le-ltb}
 use mir.Syntax.{w16}
 use mir.Val.{toZ, ofZ}
@@ -17,6 +17,10 @@ use Rattle.bits.specs.Bits.{twosComplement, residue}
 -- an i16 is what its bits stand for
 pub back : (z : ℤ) → mag z < 2 ^ 15 → toZ w16 (ofZ w16 z) ≡ z
 back z h = toZ-ofZ {w = w16} {z = z} (record { sfits = h })
+
+-- a test of two i16s is that of their numbers
+pub tested : {A : Type 0} (f : ℤ → ℤ → A) (x y : ℤ) → mag x < 2 ^ 15 → mag y < 2 ^ 15 → {a : A} → a ≡ f (toZ w16 (ofZ w16 x)) (toZ w16 (ofZ w16 y)) → f x y ≡ a
+tested f x y h k e = sym (e ∙ ap₂ f (back x h) (back y k))
 
 pub mag-le : (z : ℤ) → mag z ≤ natAbs z
 mag-le (pos n) = le-refl n
@@ -39,6 +43,14 @@ signed-part half {z} h p q = back z h ∙ p ∙ ap (twosComplement half) q
 pub residue-lt : (span : ℕ) (z : ℤ) → mag z < span → residue span z < span
 residue-lt span (pos n) h = h
 residue-lt span (negsuc n) h = omega arith
+
+-- a signed field that is written: what `residue` asks of its number, and what it answers
+module _ (span : ℕ) (z : ℤ) (typed : mag z < 2 ^ 15) where
+  pub residue-asks : natAbs z < span → span ≤ 16384 → (mag (toZ w16 (ofZ w16 z)) < span) × (span ≤ 16384)
+  residue-asks h k = rw (back z typed) (omega (arith, mag-le z), k)
+
+  pub residue-is : {r : ℕ} → (r ≡ residue span (toZ w16 (ofZ w16 z))) × (r < span) → r ≡ residue span z
+  residue-is e = e .0 ∙ ap (residue span) (back z typed)
 
 -- with the span added a number is not below zero, and its residue is left by a division
 abbrev pub raised : ℕ → ℤ → ℕ

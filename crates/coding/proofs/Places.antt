@@ -13,12 +13,12 @@ use lib.ListN.{length, getD, take, length-map}
 use borrow.Author.Tests.{not-false}
 use Rattle.refusal.specs.Refused.{Answer, result, refused, refuseIf, andThen, forEach, toldOf}
 use Rattle.refusal.proofs.Answers.{went-on, same-result}
-use Rattle.limits.specs.Limits.{mostSide, mostRecords, mostTotalMass, mostGravity, mostSteps, validMass, validGravity}
-use Rattle.spline.specs.Spline.{axisWeight}
+use Rattle.limits.specs.Limits.{mostSide, mostRecords, mostTotalMass, mostNodeVelocity, mostGravity, mostSteps, validMass, validGravity}
+use Rattle.spline.specs.Spline.{axisWeight, D}
 use Rattle.particle.specs.declared.Particle.{Particle}
 use Rattle.particle.specs.Layout.{recordLength}
 use Rattle.particle.specs.Record.{particleOf, readAnswer, readParticle, lowestVelocity, lowestAffine, writeAnswer, writeParticle, validVelocities, validAffines, validPositions}
-use Rattle.particles.specs.Set.{onGrid, admitted, setFrom, setOf, recordAt, recordCount, setAnswer, checkAnswer, validSize, validLength, recordsOf}
+use Rattle.particles.specs.Set.{onGrid, checkedParticle, setFrom, setOf, recordAt, recordCount, setAnswer, checkAnswer, validSize, validLength, recordsOf}
 use Rattle.totals.specs.Totals.{totalsAnswer}
 use Rattle.particles.proofs.Checks.{size-limits, length-limits}
 use Rattle.particles.proofs.Accepted.{accepted-limits}
@@ -26,7 +26,7 @@ use Rattle.spline.specs.Answers.{weightsAnswer}
 use Rattle.update.specs.Update.{breaksMass, breaksVelocity, checkNode, checkNodeAt, checkNodes, updateAnswer}
 use Rattle.apic.specs.Step.{newCoordinate, alongX, alongY, Grids}
 use Rattle.apic.specs.Limits.{SizeLimits, SetLimits}
-use Rattle.gather_core.specs.Gather.{tooFast, tooSteep, offGrid, moveCheck, moveChecks, gathered}
+use Rattle.gathering.specs.Gather.{tooFast, tooSteep, offGrid, moveCheck, moveChecks, gathered}
 use Rattle.settings.specs.Settings.{still}
 use Rattle.entry.specs.declared.Buffers.{Buffers}
 use Rattle.entry.specs.declared.Buffers.the-variants.{Two, Three}
@@ -35,8 +35,8 @@ use Rattle.entry.specs.Entry.{beginAnswer, entryAnswer}
 use Rattle.entry.proofs.Entry.{passed-checks, accepted}
 use Rattle.transfer.specs.Transfer.{velocityCheck, velocityChecks, checkedSet, gatherAnswer}
 use Rattle.settings.specs.declared.Settings.{Settings}
-use Rattle.simulation.specs.Step.{buffersOf, nodesOf, move, stepped, stepOf, stepEntry, stepFrom, stepAfter}
-use Rattle.simulation.specs.Run.{runFrom, runEntry, runAfter}
+use Rattle.simulation.specs.Step.{buffersOf, nodesOf, moveBy, steppedBy, stepOf, stepBy, stepEntry, stepFrom, stepAfter}
+use Rattle.simulation.specs.Run.{runFrom, runBy, runEntry, runAfter}
 use Rattle.simulation.proofs.Steps.{step-result}
 use Rattle.simulation.proofs.Calls.{ready-step, ready-run}
 use Rattle.bath_file.specs.declared.Header.{Header}
@@ -93,9 +93,9 @@ weights q = plain (not (leZ (negsuc 31) q && leZ q (pos 31))) 7 _ (λ _. accepts
 -- ---- sets
 
 module _ (nx ny start : ℕ) (bytes : List ℕ) where
-  admits : (k least mass : ℕ) (p : Particle) → k < 4294967296 → Placed (admitted nx ny k least mass p)
-  unfolding admitted
-  admits k least mass p h =
+  particle-passes : (k least mass : ℕ) (p : Particle) → k < 4294967296 → Placed (checkedParticle nx ny k least mass p)
+  unfolding checkedParticle
+  particle-passes k least mass p h =
       check (not (onGrid nx ny p)) 7 k _ h (λ _. check (ltb (p .identifier) least) 8 k _ h (λ _. check (ltb mostTotalMass (mass + p .mass)) 9 k _ h (λ _. accepts)))
 
   pub walk : (left k least mass : ℕ) → k + left < 4294967296 → Placed (setFrom nx ny start bytes left k least mass)
@@ -104,7 +104,7 @@ module _ (nx ny start : ℕ) (bytes : List ℕ) where
   walk (suc left) k least mass h =
       next (readAnswer k (recordAt start bytes k)) _ (read k (omega arith) (recordAt start bytes k))
       (λ p _.
-      next (admitted nx ny k least mass p) _ (admits k least mass p (omega arith))
+      next (checkedParticle nx ny k least mass p) _ (particle-passes k least mass p (omega arith))
       (λ q _.
       next (setFrom nx ny start bytes left (suc k) (suc (q .identifier)) (mass + q .mass)) _ (walk left (suc k) (suc (q .identifier)) (mass + q .mass) (omega arith)) (λ _ _. accepts)))
 
@@ -128,9 +128,9 @@ each : (f : ℕ → Answer Unit) (k n : ℕ) → ((i : ℕ) → i < 4294967296 �
 each f k zero h m = accepts
 each f k (suc n) h m = next (f k) _ (h k (omega arith)) (λ _ _. each f (suc k) n h (omega arith))
 
-node : (gx gy : ℤ) (k M : ℕ) (px py : ℤ) → k < 4294967296 → Placed (checkNode gx gy k M px py)
+node : (D : ℕ) (gx gy : ℤ) (k M : ℕ) (px py : ℤ) → k < 4294967296 → Placed (checkNode D gx gy k M px py)
 unfolding checkNode
-node gx gy k M px py h = check (breaksMass M px py) 11 k _ h (λ _. check (breaksVelocity gx gy M px py) 12 k _ h (λ _. accepts))
+node D gx gy k M px py h = check (breaksMass M px py) 11 k _ h (λ _. check (breaksVelocity D gx gy M px py) 12 k _ h (λ _. accepts))
 
 nodes-few : {nx ny : ℕ} → SizeLimits nx ny → 0 + nx * ny < 4294967296
 nodes-few {nx} {ny} s = few (lt (nx * ny) (mul-le-mul (s .x-most) (s .y-most)))
@@ -176,7 +176,7 @@ module _ (nx ny : ℕ) (gx gy : ℤ) (mass : List ℕ) (px py : List ℤ) where
   update =
       next (beginAnswer settings three 0 0) _ (begin settings three 0 0)
       (λ _ e.
-      each (checkNodeAt gx gy mass px py) 0 (nx * ny) (λ i h. node gx gy i (getD mass i 0) (getD px i (pos 0)) (getD py i (pos 0)) h)
+      each (checkNodeAt D gx gy mass px py) 0 (nx * ny) (λ i h. node D gx gy i (getD mass i 0) (getD px i (pos 0)) (getD py i (pos 0)) h)
       (nodes-few (size-limits nx ny (passed-checks settings three 0 0 e .0 .size))))
 
 -- ---- transfers
@@ -200,7 +200,7 @@ module _ (nx ny : ℕ) (records : List ℕ) (ux uy : List ℤ) where
   velocities : SizeLimits nx ny → Placed (velocityChecks (nx * ny) ux uy)
   unfolding velocityChecks
   velocities v =
-      each (velocityCheck ux uy) 0 (nx * ny) (λ i h. check (not (bothWithin 131072 (getD ux i (pos 0)) (getD uy i (pos 0)))) 12 i _ h (λ _. accepts)) (nodes-few v)
+      each (velocityCheck ux uy) 0 (nx * ny) (λ i h. check (not (bothWithin mostNodeVelocity (getD ux i (pos 0)) (getD uy i (pos 0)))) 12 i _ h (λ _. accepts)) (nodes-few v)
 
   ready : Placed (checkedSet nx ny records ux uy)
   unfolding checkedSet
@@ -237,12 +237,12 @@ module _ (s : Settings) (records : List ℕ) (grids : Grids) where
 
 module _ (s : Settings) where
   one-step : (ps : List Particle) → length ps ≤ mostRecords → Placed (stepOf s ps)
-  unfolding stepOf
-  one-step ps h = moves (s .nx) (s .ny) (move s ps) 0 ps _ (few h) accepts
+  unfolding stepBy
+  one-step ps h = moves (s .nx) (s .ny) (moveBy axisWeight D s ps) 0 ps _ (few h) accepts
 
   same-count : (ps : List Particle) {qs : List Particle} → length ps ≤ mostRecords → stepOf s ps ≡ result qs → length qs ≤ mostRecords
-  unfolding stepped
-  same-count ps h e = subst (λ l. length l ≤ mostRecords) (step-result s ps e .1) (rw length-map h)
+  unfolding steppedBy
+  same-count ps h e = subst (λ l. length l ≤ mostRecords) (step-result axisWeight D s ps e .1) (rw length-map h)
 
   pub step : (records : List ℕ) (grids : Grids) → Placed (stepAfter s records grids .answer)
   unfolding stepAfter stepFrom
@@ -257,7 +257,7 @@ module _ (s : Settings) where
       go (refused n k) e (refuses h) = rw e (refuses h)
 
   run-from : (n : ℕ) (records : List ℕ) (ps : List Particle) (grids : Grids) → length ps ≤ mostRecords → Placed (runFrom s n records ps grids .answer .stop)
-  unfolding runFrom
+  unfolding runBy
   run-from zero records ps grids h = accepts
   run-from (suc n) records ps grids h = go (λ qs. run-from n (recordsOf qs) qs (nodesOf s ps)) (stepOf s ps) refl (one-step ps h)
     where

@@ -7,6 +7,7 @@ use mathlib.Core.List.{List}
 use Prim.Native.Nat.{ℕ, _≤_}
 use lib.IntN.{natAbs}
 use Rattle.refusal.specs.Refused.{Answer, result, refused, either}
+use Rattle.limits.specs.Limits.{mostGravity}
 use Rattle.particle.specs.declared.Particle.{Particle}
 use Rattle.apic.specs.Step.{Axis, alongX, alongY, Grids}
 use Rattle.apic.specs.Limits.{SetLimits}
@@ -22,7 +23,7 @@ step-from s records lent e = ap (λ a. either a (λ ps. stepFrom s records ps) (
 pub record Known (s : Settings) (records : List ℕ) (lent : Grids) (ps : List Particle) : Type 0 where
   pub accepted : Accepted s (buffersOf lent) 0 records ps
   pub limits : SetLimits (s .nx) (s .ny) ps
-  pub light : (a : Axis) → natAbs (gravity s a) ≤ 4096
+  pub light : (a : Axis) → natAbs (gravity s a) ≤ mostGravity
 
 pub known : (s : Settings) (records : List ℕ) (lent : Grids) {ps : List Particle} → stepEntry s records lent ≡ result ps → Known s records lent ps
 unfolding stepEntry

@@ -5,7 +5,7 @@
 --     gather-is            gather refuses none of those, and answers as the step
 -- Assumes nothing.
 use mathlib.Core.Path.{_≡_, refl, sym, ap, ap₂, _∙_, subst}
-use mathlib.Core.Bool.{Bool, true, not, _&&_}
+use mathlib.Core.Bool.{true, not, _&&_}
 use mathlib.Core.List.{List}
 use Prim.Native.Nat.{ℕ, _*_, _<_, _≤_}
 use native.Mathlib.Nat.{zero-add}
@@ -14,22 +14,25 @@ use lib.ListN.{length, getD}
 use lib.IntN.{ℤ, pos, natAbs}
 use borrow.Author.Tests.{eq-eqb}
 use Rattle.refusal.specs.Refused.{Answer, result, refused, refuseIf, andThen, either, done, toldOf}
+use Rattle.refusal.proofs.Answers.{each-pass}
 use Rattle.particle.specs.declared.Particle.{Particle}
+use Rattle.limits.specs.Limits.{mostNodeVelocity}
+use Rattle.spline.specs.Spline.{D}
 use Rattle.apic.specs.Step.{Axis, alongX, alongY, Grids}
+use Rattle.apic.proofs.Spline.{spline-lawful}
 use Rattle.particles.specs.Set.{recordsOf}
 use Rattle.arith.specs.Lists.{each-at}
-use Rattle.gather_core.specs.Gather.{gathered, NodeVelocities}
+use Rattle.gathering.specs.Gather.{gathered, NodeVelocities}
 use Rattle.update.specs.Update.{velocities, bothAxes, updateAnswer}
 use Rattle.settings.specs.Settings.{still}
 use Rattle.entry.specs.declared.Buffers.{Buffers}
 use Rattle.entry.specs.declared.Buffers.the-variants.{Two}
 use Rattle.entry.specs.Checks.{areLong}
 use Rattle.entry.proofs.Entry.{both-within, enters}
-use Rattle.update.proofs.Walk.{each-pass}
 use Rattle.entry.specs.Entry.{entryAnswer}
 use Rattle.transfer.specs.Transfer.{scatterAnswer, velocityCheck, velocityChecks, checkedSet, moveAnswer, gatherAnswer, Fills, Moves}
 use Rattle.settings.specs.declared.Settings.{Settings}
-use Rattle.simulation.specs.Step.{seen, masses, momenta, updatedVelocities, stepped, stepOf, nodesOf, stepEntry, stepFrom, stepAfter}
+use Rattle.simulation.specs.Step.{seen, masses, massesBy, momenta, momentaBy, updatedVelocities, velocitiesBy, steppedBy, stepOf, stepBy, nodesOf, stepEntry, stepFrom, stepAfter}
 use Rattle.simulation.proofs.Refusals as refusals
 use Rattle.simulation.proofs.Refusals.{velocity-limits}
 use Rattle.composition.specs.ThreeCalls.{ThreeCalls, IsStep, StepIsThreeCalls, ThreeCallsExist}
@@ -43,10 +46,10 @@ velocities-pass {nx} {ny} {ux} {uy} a b =
     each-pass (velocityCheck ux uy) 0 (nx * ny)
     (λ k h.
     ap (velocityCheck ux uy) (zero-add k)
-    ∙ ap (λ t. refuseIf (not t) 12 k done) (both-within 131072 (getD ux k (pos 0)) (getD uy k (pos 0)) (at a k h) (at b k h)))
+    ∙ ap (λ t. refuseIf (not t) 12 k done) (both-within mostNodeVelocity (getD ux k (pos 0)) (getD uy k (pos 0)) (at a k h) (at b k h)))
   where
-    at : {u : List ℤ} → NodeVelocities nx ny u → (k : ℕ) → k < nx * ny → natAbs (getD u k (pos 0)) ≤ 131072
-    at {u} v k h = each-at (λ z. natAbs z ≤ 131072) u k (pos 0) (v .each) (rw (v .count) h)
+    at : {u : List ℤ} → NodeVelocities nx ny u → (k : ℕ) → k < nx * ny → natAbs (getD u k (pos 0)) ≤ mostNodeVelocity
+    at {u} v k h = each-at (λ z. natAbs z ≤ mostNodeVelocity) u k (pos 0) (v .each) (rw (v .count) h)
 
 -- ---- the three calls
 
@@ -71,9 +74,9 @@ module _ (s : Settings) (records : List ℕ) (lent : Grids) {ps : List Particle}
   update-is = refusals.update-done s ps (k .limits) (k .light)
 
   gather-is : gatherAnswer (s .nx) (s .ny) records (u alongX) (u alongY) ≡ stepOf s ps
-  unfolding checkedSet stepOf stepped
+  unfolding checkedSet stepBy steppedBy
   gather-is =
-      let v = velocity-limits s ps (k .limits) (k .light) in
+      let v = velocity-limits spline-lawful s ps (k .limits) (k .light) in
       ap (λ a. andThen (andThen a (λ qs. andThen (velocityChecks (s .nx * s .ny) (u alongX) (u alongY)) (λ _. result qs))) (λ qs. moveAnswer (s .nx) (s .ny) (u alongX) (u alongY) qs))
       (entry-is (Two (length (u alongX)) (length (u alongY))) (ap₂ _&&_ (eq-eqb (length (u alongX)) (s .nx * s .ny) (v alongX .count)) (eq-eqb (length (u alongY)) (s .nx * s .ny) (v alongY .count))))
       ∙ ap (λ a. andThen (andThen a (λ _. result ps)) (λ qs. moveAnswer (s .nx) (s .ny) (u alongX) (u alongY) qs)) (velocities-pass (v alongX) (v alongY))
@@ -88,36 +91,36 @@ module _ (s : Settings) (records : List ℕ) (lent : Grids) {ps : List Particle}
     filled = rw scatter-is at (c .scatter)
 
     mass-is : c .mass ≡ masses s ps
-    unfolding masses
+    unfolding massesBy
     mass-is = ap (λ g. g .mass) (filled .left-is)
 
     px-is : c .px ≡ momenta s alongX ps
-    unfolding momenta
+    unfolding momentaBy
     px-is = ap (λ g. g .x) (filled .left-is)
 
     py-is : c .py ≡ momenta s alongY ps
-    unfolding momenta
+    unfolding momentaBy
     py-is = ap (λ g. g .y) (filled .left-is)
 
     accepted : updateAnswer (s .nx) (s .ny) (s .gx) (s .gy) (c .mass) (c .px) (c .py) ≡ done
     accepted = rw (mass-is, px-is, py-is) update-is
 
-    updated : bothAxes (c .ux) (c .uy) ≡ bothAxes (velocities (s .nx * s .ny) (s .gx) (c .mass) (c .px)) (velocities (s .nx * s .ny) (s .gy) (c .mass) (c .py))
+    updated : bothAxes (c .ux) (c .uy) ≡ bothAxes (velocities D (s .nx * s .ny) (s .gx) (c .mass) (c .px)) (velocities D (s .nx * s .ny) (s .gy) (c .mass) (c .py))
     updated =
         c .update .left-is
-        ∙ ap (λ a. either a (λ _. bothAxes (velocities (s .nx * s .ny) (s .gx) (c .mass) (c .px)) (velocities (s .nx * s .ny) (s .gy) (c .mass) (c .py))) (λ n k. bothAxes (c .px) (c .py))) accepted
+        ∙ ap (λ a. either a (λ _. bothAxes (velocities D (s .nx * s .ny) (s .gx) (c .mass) (c .px)) (velocities D (s .nx * s .ny) (s .gy) (c .mass) (c .py))) (λ n k. bothAxes (c .px) (c .py))) accepted
 
     ux-is : c .ux ≡ u alongX
-    unfolding updatedVelocities
+    unfolding velocitiesBy
     ux-is =
         ap (λ g. g .x) updated
-        ∙ ap₂ (velocities (s .nx * s .ny) (s .gx)) mass-is px-is
+        ∙ ap₂ (velocities D (s .nx * s .ny) (s .gx)) mass-is px-is
 
     uy-is : c .uy ≡ u alongY
-    unfolding updatedVelocities
+    unfolding velocitiesBy
     uy-is =
         ap (λ g. g .y) updated
-        ∙ ap₂ (velocities (s .nx * s .ny) (s .gy)) mass-is py-is
+        ∙ ap₂ (velocities D (s .nx * s .ny) (s .gy)) mass-is py-is
 
     moves : Moves (stepOf s ps) records (c .gathered) (c .moved)
     moves =

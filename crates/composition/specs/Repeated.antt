@@ -4,6 +4,7 @@ use mathlib.Core.Path.{_≡_}
 use mathlib.Core.List.{List}
 use Prim.Native.Nat.{ℕ, suc, _<_}
 use Rattle.refusal.specs.Refused.{Answer, refused, either}
+use Rattle.limits.specs.Limits.{mostSteps}
 use Rattle.settings.specs.declared.Settings.{Settings}
 use Rattle.apic.specs.Step.{Grids}
 use Rattle.simulation.specs.Step.{After, stepAfter}
@@ -18,5 +19,5 @@ thenRun s n a =
 -- for every call of run that wants at least one step and at most 10,000
 abbrev pub RunIsSteps : Type 0
 RunIsSteps =
-    (s : Settings) (n : ℕ) (records : List ℕ) (grids : Grids) → n < 10000
+    (s : Settings) (n : ℕ) (records : List ℕ) (grids : Grids) → n < mostSteps
     → runAfter s (suc n) records grids ≡ thenRun s n (stepAfter s records grids)

@@ -1,5 +1,5 @@
 -- The checks at entry, and what is known where they pass.
---     told-done, kept-refusal     an answer whose value is changed is done, or refused, as the answer is
+--     kept-refusal                an answer whose value is changed is refused as the answer is
 --     and-true, within-both, both-within, Long, long-three     the tests as facts
 --     count-fits                  the number of nodes is a machine number
 --     bad-size .. too-many, begins     the answer before the set, by its tests
@@ -18,7 +18,7 @@ use lib.IntN.{ℤ, natAbs}
 use mir.Syntax.{w64}
 use mir.Val.{Fits}
 use borrow.Author.Tests.{eqb-true, eq-eqb, le-leb, leb-true, lt-ltb, le-ltb, ltb-false, not-false}
-use Rattle.refusal.specs.Refused.{Answer, result, refused, refuseIf, andThen, done, toldOf}
+use Rattle.refusal.specs.Refused.{Answer, result, refused, refuseIf, andThen, done}
 use Rattle.refusal.proofs.Answers.{not-refused, same-refusal, passed, went-on}
 use Rattle.particle.specs.declared.Particle.{Particle}
 use Rattle.limits.specs.Limits.{mostGravity, mostSteps}
@@ -31,10 +31,6 @@ use Rattle.entry.specs.Checks.{areLong, bothWithin}
 use Rattle.entry.specs.Entry.{beginAnswer, entryAnswer}
 
 -- ---- answers
-
-module _ {A B : Type 0} (a : Answer A) (f : A → B) where
-  pub told-done : {b : B} → andThen a (λ x. result (f x)) ≡ result b → toldOf a ≡ done
-  told-done e = ap toldOf (went-on a (λ x. result (f x)) e .1)
 
 pub kept-refusal : {A B : Type 0} (a : Answer A) (f : A → B) {n k : ℕ} → andThen a (λ x. result (f x)) ≡ refused n k → a ≡ refused n k
 kept-refusal (result x) f e = not-refused e

@@ -1,12 +1,9 @@
 // Grid-to-particle transfer of a set of records.
 use entry::Begun;
-use entry::Buffers;
-use gather_core::Gathered;
+use gathering::Gathered;
 use packing::SET_NUMBERS;
 use particle::RECORD_LENGTH;
-use particles::Checked;
 use particles::SET_LENGTH;
-use refusal::Refusal;
 use transfer::Moved;
 use transfer::PART_LENGTH;
 use transfer::PART_NUMBERS;
@@ -14,43 +11,12 @@ use unpacked::NUMBERS;
 ghost use mathlib.Core.Path.{_≡_};
 ghost use Prim.Native.Nat.{_*_, _≤_};
 ghost use lib.ListN.{length};
-ghost use Rattle.refusal.specs.Refused.{toldOf};
 ghost use Rattle.spline.specs.Spline.{axisWeight};
 ghost use Rattle.particle.specs.Layout.{recordLength};
 ghost use Rattle.particles.specs.Set.{recordCount, particlesIn};
 ghost use Rattle.unpacked.specs.Unpacked.{perParticle};
-ghost use Rattle.entry.specs.Entry.{toldBegun};
-ghost use Rattle.transfer.specs.Transfer.{toldMoved, velocityChecks, checkedSet, moveAnswer, Moves, GatherIs};
+ghost use Rattle.transfer.specs.Transfer.{toldMoved, moveAnswer, Moves, GatherIs};
 ghost use Rattle.transfer.specs.Internal.{part, GatherSet, MovedFrom};
-
-const MOST_VELOCITY: i64 = 131072;
-
-// Looks at the velocity of every node. `check_gather` calls it.
-fn check_velocities(count: usize, ux: &[i64], uy: &[i64]) -> Begun
-    requires { ⌜ (length (now ux) ≡ count) × (length (now uy) ≡ count) ⌝ }
-    ensures { λ r. ⌜ toldBegun r ≡ velocityChecks count (now (ux .entry)) (now (uy .entry)) ⌝ }
-{
-    let mut k = 0;
-    while k < count {
-        if !entry::checks::both_within(ux[k], uy[k], MOST_VELOCITY) {
-            return Begun::Refused(Refusal::NodeVelocity(k));
-        }
-        k += 1;
-    }
-    Begun::Done
-}
-
-// The checks of a gather before any particle moves.
-fn check_gather(nx: usize, ny: usize, records: &[u8], ux: &[i64], uy: &[i64]) -> Begun
-    ensures { λ r. ⌜ toldBegun r ≡ toldOf (checkedSet nx ny (now (records .entry)) (now (ux .entry)) (now (uy .entry))) ⌝ }
-{
-    let settings = settings::still(nx, ny);
-    let buffers = Buffers::Two(ux.len(), uy.len());
-    match entry::check(settings, buffers, 0, records) {
-        Checked::Refused(refusal) => Begun::Refused(refusal),
-        Checked::Records(_) => check_velocities(ux.len(), ux, uy),
-    }
-}
 
 // Moves an accepted set into an array of as many numbers. `gather_scratch` calls it.
 fn gather_into(
@@ -129,7 +95,7 @@ fn gather_set(nx: usize, ny: usize, records: &mut [u8], ux: &[i64], uy: &[i64]) 
 pub fn gather(nx: usize, ny: usize, records: &mut [u8], ux: &[i64], uy: &[i64]) -> Moved
     ensures { λ r. ⌜ GatherIs nx ny (now (records .entry)) (now (ux .entry)) (now (uy .entry)) (toldMoved r) (now (records .exit)) ⌝ }
 {
-    match check_gather(nx, ny, records, ux, uy) {
+    match gather_entry::check_gather(nx, ny, records, ux, uy) {
         Begun::Refused(refusal) => Moved::Refused(refusal),
         Begun::Done => gather_set(nx, ny, records, ux, uy),
     }

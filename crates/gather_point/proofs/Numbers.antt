@@ -7,6 +7,7 @@ use lib.IntN.{ℤ}
 use mir.Syntax.{w64}
 use mir.Val.{toZ, ofZ}
 use Rattle.arith.specs.Size.{Bound, bounded, sizes}
+use Rattle.limits.specs.Limits.{mostNodeVelocity}
 use Rattle.spline.specs.declared.AxisWeights.{AxisWeights}
 use Rattle.gather_point.specs.declared.Shares.{Shares}
 use Rattle.gather_point.specs.declared.AffineVelocity.{AffineVelocity}
@@ -19,7 +20,7 @@ pub record Read (a : AffineVelocity) : Type 0 where
 
 -- ---- weighed sums
 
-pub row-small : (w : AxisWeights) (a b c : ℤ) → SmallWeights w → Bound a 131072 → Bound b 131072 → Bound c 131072 → SmallShares (weighed w a b c)
+pub row-small : (w : AxisWeights) (a b c : ℤ) → SmallWeights w → Bound a mostNodeVelocity → Bound b mostNodeVelocity → Bound c mostNodeVelocity → SmallShares (weighed w a b c)
 row-small w a b c s h k l =
     record { sum-size = bounded (search sizes depth 20) tt; tilt-size = bounded (search sizes depth 20) tt }
 

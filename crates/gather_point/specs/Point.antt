@@ -8,6 +8,7 @@ use lib.IntN.{ℤ, pos, natAbs, _+ℤ_, _-ℤ_, _*ℤ_}
 use Rattle.arith.specs.Size.{Bound}
 use Rattle.arith.specs.Sums.{Each}
 use Rattle.arith.specs.Rounding.{rounded}
+use Rattle.limits.specs.Limits.{mostSide, mostPosition, mostNodeVelocity}
 use Rattle.spline.specs.Spline.{nearestNode, offset}
 use Rattle.spline.specs.Kernel.{weightsAt}
 use Rattle.spline.specs.declared.AxisWeights.{AxisWeights}
@@ -15,6 +16,10 @@ use Rattle.gather_point.specs.declared.Shares.{Shares}
 use Rattle.gather_point.specs.declared.Block.{Block}
 use Rattle.gather_point.specs.declared.AffineVelocity.{AffineVelocity}
 use Rattle.gather_point.specs.declared.Motion.{Motion}
+
+-- how large a gathered velocity can be: a sum of at most 2^53, divided by 2^34
+abbrev pub mostGathered : ℕ
+mostGathered = 524288
 
 -- weights of one axis, and three numbers to weigh: below 2^16, and at most 2^35
 pub record Weighable (lower nearest upper a b c : ℤ) : Type 0 where
@@ -80,24 +85,24 @@ affineVelocityOf b qx qy =
 unfoldable pub nineNodes : AxisWeights → AxisWeights → ℕ → List ℤ → ℕ → Block
 nineNodes wx wy nx u at = blockOf wy (rowShares wx u at) (rowShares wx u (at + nx)) (rowShares wx u (at + 2 * nx))
 
--- all nine are nodes, with velocities within ±131,072; q is within ±32
+-- all nine are nodes, with velocities within their limit; q is within ±32
 pub record Nine (nx at : ℕ) (u : List ℤ) (qx qy : ℤ) : Type 0 where
   pub inside : at + 2 * nx + 2 < length u
-  pub each : Each (λ z. natAbs z ≤ 131072) u
+  pub each : Each (λ z. natAbs z ≤ mostNodeVelocity) u
   pub x-offset : Bound qx 32
   pub y-offset : Bound qy 32
 
 -- a particle at (x, y) has nine nodes around it
 pub record Around (nx x y : ℕ) (ux uy : List ℤ) : Type 0 where
-  pub columns : nx ≤ 48
+  pub columns : nx ≤ mostSide
   pub x-least : 32 ≤ x
-  pub x-most : x ≤ 4095
+  pub x-most : x ≤ mostPosition
   pub y-least : 32 ≤ y
-  pub y-most : y ≤ 4095
+  pub y-most : y ≤ mostPosition
   pub x-nodes : (nearestNode y - 1) * nx + (nearestNode x - 1) + 2 * nx + 2 < length ux
   pub y-nodes : (nearestNode y - 1) * nx + (nearestNode x - 1) + 2 * nx + 2 < length uy
-  pub x-each : Each (λ z. natAbs z ≤ 131072) ux
-  pub y-each : Each (λ z. natAbs z ≤ 131072) uy
+  pub x-each : Each (λ z. natAbs z ≤ mostNodeVelocity) ux
+  pub y-each : Each (λ z. natAbs z ≤ mostNodeVelocity) uy
 
 -- what is gathered there from the node velocities u, with the weights of table t
 unfoldable pub axisAt : List (List ℕ) → ℕ → List ℤ → ℕ → ℕ → AffineVelocity
@@ -109,5 +114,5 @@ axisAt t nx u x y =
 pub record MotionAt (nx x y : ℕ) (t : List (List ℕ)) (ux uy : List ℤ) (m : Motion) : Type 0 where
   pub x-is : m .x ≡ axisAt t nx ux x y
   pub y-is : m .y ≡ axisAt t nx uy x y
-  pub x-size : Bound (m .x .v) 524288
-  pub y-size : Bound (m .y .v) 524288
+  pub x-size : Bound (m .x .v) mostGathered
+  pub y-size : Bound (m .y .v) mostGathered

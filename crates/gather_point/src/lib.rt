@@ -1,13 +1,13 @@
 // The grid-to-particle transfer at one place: velocity and affine state from the nine nodes around it.
 ghost use mathlib.Core.Path.{_≡_};
-ghost use Prim.Native.Nat.{_+_, _-_, _*_, _<_, _≤_, _^_};
+ghost use Prim.Native.Nat.{_+_, _-_, _*_, _<_, _≤_};
 ghost use lib.ListN.{length};
 ghost use lib.IntN.{pos, natAbs};
 ghost use Rattle.arith.specs.Size.{Bound};
 ghost use Rattle.arith.specs.Sums.{Each};
-ghost use Rattle.arith.specs.Rounding.{rounded};
+ghost use Rattle.limits.specs.Limits.{mostSide, mostPosition, mostNodeVelocity};
 ghost use Rattle.spline.specs.Spline.{offset, nearestNode};
-ghost use Rattle.gather_point.specs.Point.{Weighable, sharesOf, weighed, SmallWeights, rowShares, SmallShares, blockOf, SmallBlock, momentAbout, affineVelocityOf, nineNodes, Nine, Around, MotionAt};
+ghost use Rattle.gather_point.specs.Point.{Weighable, sharesOf, weighed, SmallWeights, rowShares, SmallShares, blockOf, SmallBlock, momentAbout, affineVelocityOf, nineNodes, Nine, Around, MotionAt, mostGathered};
 use spline::AxisWeights;
 
 // Of three neighbours: the weighed sum, and the upper one's share less the lower one's.
@@ -61,7 +61,7 @@ fn weigh_three(w: AxisWeights, a: i64, b: i64, c: i64) -> Shares
 
 // Three nodes of a row, of which the first is at place `at`.
 fn row_shares(w: AxisWeights, u: &[i64], at: usize) -> Shares
-    requires { ⌜ (at + 2 < length (now u)) × Each (λ z. natAbs z ≤ 131072) (now u) ⌝ }
+    requires { ⌜ (at + 2 < length (now u)) × Each (λ z. natAbs z ≤ mostNodeVelocity) (now u) ⌝ }
     ensures { λ r. ⌜ (r ≡ rowShares w (now (u .entry)) at) × SmallShares r ⌝ }
 {
     weigh_three(w, u[at], u[at + 1], u[at + 2])
@@ -81,14 +81,6 @@ fn three_rows(w: AxisWeights, a: Shares, b: Shares, c: Shares) -> Block
     }
 }
 
-// A gathered sum divided by 2^34, to nearest, halves away from zero.
-fn rounded(sum: i64) -> i64
-    requires { ⌜ Bound sum 1152921504606846976 ⌝ }
-    ensures { λ r. ⌜ r ≡ rounded sum (2 ^ 34) ⌝ }
-{
-    (sum + (1 << 33) + (sum >> 63)) >> 34
-}
-
 // Σ W·u·d along one axis, where the particle is at offset q from its nearest node.
 fn moment(sum: i64, tilt: i64, q: i64) -> i64
     requires { ⌜ Bound sum 9007199254740992 × Bound tilt 9007199254740992 × Bound q 32 ⌝ }
@@ -100,18 +92,18 @@ fn moment(sum: i64, tilt: i64, q: i64) -> i64
 // The velocity on one axis from the sums over the nine nodes.
 fn affine_velocity(b: Block, qx: i64, qy: i64) -> AffineVelocity
     requires { ⌜ SmallBlock b × Bound qx 32 × Bound qy 32 ⌝ }
-    ensures { λ r. ⌜ (r ≡ affineVelocityOf b qx qy) × Bound (r .v) 524288 ⌝ }
+    ensures { λ r. ⌜ (r ≡ affineVelocityOf b qx qy) × Bound (r .v) mostGathered ⌝ }
 {
     AffineVelocity {
-        v: rounded(b.sum),
-        bx: rounded(moment(b.sum, b.across, qx)),
-        by: rounded(moment(b.sum, b.up, qy)),
+        v: gather_round::rounded(b.sum),
+        bx: gather_round::rounded(moment(b.sum, b.across, qx)),
+        by: gather_round::rounded(moment(b.sum, b.up, qy)),
     }
 }
 
 // The offset of a coordinate from its nearest node.
 fn offset_of(x: usize) -> i64
-    requires { ⌜ x ≤ 4095 ⌝ }
+    requires { ⌜ x ≤ mostPosition ⌝ }
     ensures { λ r. ⌜ (r ≡ offset x) × Bound r 32 ⌝ }
 {
     ((x + 32) % 64) as i64 - 32
@@ -119,7 +111,7 @@ fn offset_of(x: usize) -> i64
 
 // The place of the lowest of the nine nodes around a particle at (x, y).
 fn first_node(nx: usize, x: usize, y: usize) -> usize
-    requires { ⌜ (nx ≤ 48) × ((32 ≤ x) × (x ≤ 4095)) × ((32 ≤ y) × (y ≤ 4095)) ⌝ }
+    requires { ⌜ (nx ≤ mostSide) × ((32 ≤ x) × (x ≤ mostPosition)) × ((32 ≤ y) × (y ≤ mostPosition)) ⌝ }
     ensures { λ r. ⌜ r ≡ (nearestNode y - 1) * nx + (nearestNode x - 1) ⌝ }
 {
     ((y + 32) / 64 - 1) * nx + ((x + 32) / 64 - 1)
@@ -136,7 +128,7 @@ fn gather_axis(
     qy: i64,
 ) -> AffineVelocity
     requires { ⌜ Nine nx at (now u) qx qy ⌝ }
-    ensures { λ r. ⌜ (r ≡ affineVelocityOf (nineNodes wx wy nx (now (u .entry)) at) qx qy) × Bound (r .v) 524288 ⌝ }
+    ensures { λ r. ⌜ (r ≡ affineVelocityOf (nineNodes wx wy nx (now (u .entry)) at) qx qy) × Bound (r .v) mostGathered ⌝ }
 {
     let low = row_shares(wx, u, at);
     let middle = row_shares(wx, u, at + nx);

@@ -7,7 +7,6 @@ use particle::Read;
 use particle::Written;
 use particles::Checked;
 use settings::Settings;
-use simulation::Ran;
 use simulation::Stepped;
 use spline::Weighed;
 use totals::Totalled;
@@ -35,10 +34,10 @@ ghost use Rattle.coding.specs.Runs.{RunTells, settingsWith};
 pub extern "C" fn gondwize_read_record(bytes: &[u8], values: &mut [i64; NUMBERS]) -> u64
     ensures { λ r. ⌜ Gives (readAnswer 0 (now (bytes .entry))) numbers (now (values .entry)) r (now (values .exit)) ⌝ }
 {
-    match particle::read_record(bytes) {
+    match record_reader::read_record(bytes) {
         Read::Refused(refusal) => answer::code(refusal),
         Read::Found(p) => {
-            *values = particle::numbers_of(p);
+            *values = record_reader::numbers_of(p);
             0
         }
     }
@@ -63,7 +62,7 @@ pub extern "C" fn gondwize_write_record(
     ensures buffer { λ _. ⌜ now (bytes .exit) ≡ written (particleWith identifier mass x y vx vy bxx bxy byx byy) (now (bytes .entry)) ⌝ }
 {
     let p = wide::particle(identifier, mass, x, y, vx, vy, bxx, bxy, byx, byy);
-    match particle::write_record(p, bytes) {
+    match record_writer::write_record(p, bytes) {
         Written::Refused(refusal) => answer::code(refusal),
         Written::Done => 0,
     }
@@ -151,7 +150,7 @@ pub extern "C" fn gondwize_update(
         (now (mass .entry)) (now (px .entry)) (now (py .entry)) told
         (now (px .exit)) (now (py .exit))) r ⌝ }
 {
-    match update::update(nx, ny, gx, gy, mass, px, py) {
+    match update_grid::update(nx, ny, gx, gy, mass, px, py) {
         Updated::Refused(refusal) => answer::code(refusal),
         Updated::Done => 0,
     }
@@ -224,7 +223,7 @@ pub extern "C" fn gondwize_run(
 pub extern "C" fn gondwize_read_file(bytes: &[u8], values: &mut [i64; wide::SETTINGS]) -> u64
     ensures { λ r. ⌜ Gives (fileAnswer (now (bytes .entry))) settings (now (values .entry)) r (now (values .exit)) ⌝ }
 {
-    match bath_file::read_file(bytes) {
+    match file_reader::read_file(bytes) {
         FileRead::Refused(refusal) => answer::code(refusal),
         FileRead::Accepted(h) => {
             *values = wide::of_header(h);
@@ -248,7 +247,7 @@ pub extern "C" fn gondwize_write_header(
     ensures buffer { λ _. ⌜ now (bytes .exit) ≡ file.written (headerWith nx ny gx gy count steps) (now (bytes .entry)) ⌝ }
 {
     let h = wide::header(nx, ny, gx, gy, count, steps);
-    match bath_file::write_header(h, bytes) {
+    match header_writer::write_header(h, bytes) {
         HeaderWritten::Refused(refusal) => answer::code(refusal),
         HeaderWritten::Done => 0,
     }

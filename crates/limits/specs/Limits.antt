@@ -2,10 +2,11 @@
 --     leastSide, mostSide         nodes along an axis
 --     leastMass, mostMass, mostVelocity, mostAffine, mostPosition     the numbers of one particle
 --     mostRecords, mostTotalMass  a set of them
+--     mostNodeMass, mostNodeVelocity     a node
 --     mostGravity, mostSteps      what a run is asked for
 --     between, isℤ, valid..       a number is within its limits
 -- Assumes nothing.
-use Prim.Native.Nat.{ℕ}
+use Prim.Native.Nat.{ℕ, _^_}
 use mathlib.Core.Bool.{Bool, _&&_}
 use lib.Dec.{leb}
 use lib.IntN.{ℤ, pos, negℤ}
@@ -37,6 +38,12 @@ mostRecords = 4096
 
 abbrev pub mostTotalMass : ℕ
 mostTotalMass = 131072
+
+abbrev pub mostNodeMass : ℕ
+mostNodeMass = 2 ^ 43
+
+abbrev pub mostNodeVelocity : ℕ
+mostNodeVelocity = 131072
 
 abbrev pub mostGravity : ℕ
 mostGravity = 4096

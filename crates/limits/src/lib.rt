@@ -28,6 +28,11 @@ pub const MOST_RECORDS: usize = 4096;
 
 pub const MOST_TOTAL_MASS: u64 = 131072;
 
+// A node's mass, and its velocity on an axis in 256ths of a velocity unit.
+pub const MOST_NODE_MASS: u64 = 0x800_0000_0000;
+
+pub const MOST_NODE_VELOCITY: i64 = 131072;
+
 // Gravity on an axis, and the number of steps.
 pub const MOST_GRAVITY: i16 = 4096;
 

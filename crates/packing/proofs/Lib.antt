@@ -1,3 +1,1 @@
-pub mod Filling
-pub mod Parts
 pub mod Sets

@@ -1,97 +1,30 @@
--- Particle sets on their way in and out.
---     particlesIn-accepted           the records of an accepted set hold its particles
---     count-in, in-at, part-is       the particles in records, one by one
---     narrow                         a record's mass and place are numbers of 16 bits with sign
---     unpacked-accepted              an accepted set, unpacked, is an array that holds it
---     set-length                     its records are not too many
---     packed-back                    packing what was unpacked gives the set back
+-- Particle sets on their way out.
 --     named                          a particle under another identifier has the same numbers, and is as valid
 --     packable-at                    the particles of an array, one by one
 --     Packed, packed-start, packed-next, packed-end
 --                                    the loop of `pack_set`: the first k records are written, and the others as they were
 -- Assumes nothing.
-use mathlib.Core.Path.{_≡_, refl, sym, ap, ap₂, _∙_, subst}
-use mathlib.Core.List.{List, _∷_, map}
-use Prim.Native.Nat.{ℕ, zero, suc, _+_, _-_, _*_, _/_, _<_, _≤_}
+use mathlib.Core.Path.{_≡_, refl, sym, ap, _∙_, subst}
+use mathlib.Core.List.{List}
+use Prim.Native.Nat.{ℕ, _+_, _*_, _/_, _<_, _≤_}
 use native.Mathlib.Nat.{zero-add}
 use native.Mathlib.Omega.{arith}
 use lib.ListN.{length, getD, take, drop, List·getD-map}
 use lib.Seq.{drop-drop}
 use lib.IntN.{ℤ}
-use Rattle.refusal.specs.Refused.{result}
-use Rattle.refusal.proofs.Answers.{same-result}
-use Rattle.arith.specs.Sums.{from}
 use Rattle.particle.specs.declared.Particle.{Particle}
 use Rattle.particle.specs.Layout.{recordLength}
 use Rattle.particle.specs.Layout as field
 use Rattle.particle.specs.Record.{particleOf, recordOf, Valid}
-use Rattle.particle.proofs.RoundTrip.{fields-hold, read-held, record-length}
-use Rattle.particles.specs.Set.{setLength, recordAt, recordCount, recordsOf, setFrom, setAnswer, particleIn, particlesIn}
-use Rattle.particles.proofs.Checks.{taken, entered, length-limits}
-use Rattle.particles.proofs.Accepted.{accepted-limits, accepted-records, particle-valid}
-use Rattle.unpacked.specs.Unpacked.{perParticle, unpacked, Holds, NumbersAt}
-use Rattle.arith.specs.Lists.{getD-tabulated, length-tabulated}
+use Rattle.particles.specs.Set.{recordCount, recordsOf, particleIn, particlesIn}
+use Rattle.particles.proofs.Accepted.{particle-valid}
+use Rattle.unpacked.specs.Unpacked.{perParticle, unpacked, NumbersAt}
+use Rattle.arith.specs.Lists.{placed, placed-length}
 use Rattle.unpacked.proofs.Laws.{length-unpacked, numbers-at, some-at, nobody}
 use Rattle.packing.specs.Packing.{Packable, Packs, identifiers}
-use Rattle.packing.specs.Internal.{placed, Narrow, PackableAt, PacksAt}
-use Rattle.packing.proofs.Filling.{Filled, record-parts, placed-length, placed-behind, filled-start, filled-next, filled-end}
-
--- ---- the way in
-
-module _ (nx ny : ℕ) (bytes : List ℕ) where
-  walk-particles : (left k least mass : ℕ) {ps : List Particle} → setFrom nx ny 0 bytes left k least mass ≡ result ps → map (λ j. particleIn bytes j) (from k left) ≡ ps
-  unfolding setFrom
-  walk-particles zero k least mass e = same-result e
-  walk-particles (suc left) k least mass e =
-      let t = taken nx ny 0 bytes left k least mass e in
-      ap (λ p. p ∷ map (λ j. particleIn bytes j) (from (suc k) left)) (read-held k (recordAt 0 bytes k) (t .head) (t .read) .holds)
-      ∙ ap (λ ps. t .head ∷ ps) (walk-particles left (suc k) (suc (t .head .identifier)) (mass + t .head .mass) (t .rest))
-      ∙ t .is
-
-  pub particlesIn-accepted : {ps : List Particle} → setAnswer nx ny bytes ≡ result ps → particlesIn bytes ≡ ps
-  unfolding particlesIn
-  particlesIn-accepted e = walk-particles (recordCount bytes) 0 0 0 (entered nx ny bytes e .set)
-
-module _ (bytes : List ℕ) where
-  pub count-in : length (particlesIn bytes) ≡ recordCount bytes
-  unfolding particlesIn
-  count-in = length-tabulated (λ k. particleIn bytes k) (recordCount bytes)
-
-  pub in-at : (k : ℕ) (d : Particle) → k < recordCount bytes → getD (particlesIn bytes) k d ≡ particleIn bytes k
-  unfolding particlesIn
-  in-at k d h = getD-tabulated (λ k. particleIn bytes k) (recordCount bytes) k d h
-
--- the part that is lent is the record
-pub part-is : (k : ℕ) (bytes : List ℕ) → take (14 * k + 14 - 14 * k) (drop (14 * k) bytes) ≡ recordAt 0 bytes k
-part-is k bytes = ap₂ (λ n at. take n (drop at bytes)) (room (14 * k)) (sym (zero-add (14 * k)))
-  where
-    room : (a : ℕ) → a + 14 - a ≡ 14
-    room a = omega arith
-
-pub narrow : (bytes : List ℕ) → Narrow (particleOf bytes)
-unfolding particleOf
-narrow bytes =
-    let holds = fields-hold bytes in
-    record { mass = omega (arith, holds field.mass); x = omega (arith, holds field.x); y = omega (arith, holds field.y) }
-
-module _ (nx ny : ℕ) (bytes : List ℕ) {ps : List Particle} (e : setAnswer nx ny bytes ≡ result ps) where
-  pub unpacked-accepted : Holds nx ny (unpacked (particlesIn bytes)) (particlesIn bytes)
-  unpacked-accepted =
-      subst (λ qs. Holds nx ny (unpacked qs) qs) (sym (particlesIn-accepted nx ny bytes e))
-      (record { is = refl; limits = accepted-limits nx ny bytes e })
-
-  pub set-length : length bytes ≤ setLength
-  set-length =
-      let l = length-limits (length bytes) (entered nx ny bytes e .whole) in
-      omega (arith, l .whole, l .count)
-
-  pub packed-back : ((i : ℕ) → getD bytes i 0 < 256) → {bytes′ : List ℕ} → Packs (unpacked (particlesIn bytes)) bytes bytes′ → bytes′ ≡ bytes
-  packed-back small p =
-      p (particlesIn bytes) refl refl
-      ∙ ap recordsOf (particlesIn-accepted nx ny bytes e)
-      ∙ sym (accepted-records nx ny bytes small e)
-
--- ---- the way out
+use Rattle.packing.specs.Internal.{PackableAt, PacksAt}
+use Rattle.unpacking.proofs.Filling.{Filled, record-parts, part-fits, part-behind, filled-start, filled-next, filled-end}
+use Rattle.unpacking.proofs.Sets.{in-at}
 
 -- the particle under another identifier
 abbrev pub named : ℕ → Particle → Particle
@@ -174,10 +107,10 @@ module _ {l : List ℤ} {records₀ records : List ℕ} {k : ℕ} (w : Packed l 
   pub packed-next : {records′ : List ℕ} → PackableAt l k → recordLength * k + recordLength ≤ length records → k < length l / perParticle → PacksAt l k records records′ → Packed l records₀ records′ (k + 1)
   packed-next {records′} at room below packs =
       let q = named (particleIn records k .identifier) (at .readable .particle) in
-      let e : records′ ≡ placed recordLength records k (recordOf q) = packs q (named-at (particleIn records k .identifier) (at .readable .numbers)) refl in
+      let e : records′ ≡ placed records (recordLength * k) (recordOf q) = packs q (named-at (particleIn records k .identifier) (at .readable .numbers)) refl in
       record {
-        long = ap length e ∙ placed-length recordLength k records (recordOf q) (record-length q) room ∙ w .long;
-        behind = ap (drop (recordLength * (k + 1))) e ∙ placed-behind recordLength k records (recordOf q) (record-length q) room ∙ further (w .behind);
+        long = ap length e ∙ placed-length records (recordLength * k) (recordOf q) (part-fits record-parts k records q room) ∙ w .long;
+        behind = ap (drop (recordLength * (k + 1))) e ∙ part-behind record-parts k records q room ∙ further (w .behind);
         done = λ ps is same.
             let here = subst (λ n. k < n) (count-unpacked l ps is) below in
             let p = getD ps k nobody in

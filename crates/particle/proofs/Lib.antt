@@ -1,5 +1,6 @@
 pub mod Example
+pub mod Fields
+pub mod Reading
 pub mod RoundTrip
 pub mod Valid
-pub mod Words
 pub mod Writing

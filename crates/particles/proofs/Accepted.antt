@@ -27,8 +27,8 @@ use Rattle.particle.specs.Record.{readAnswer, recordOf, Valid}
 use Rattle.particle.proofs.RoundTrip.{read-held, record-of-read, read-of-valid, record-length}
 use Rattle.apic.specs.Totals.{totalMass}
 use Rattle.apic.specs.Limits.{SizeLimits, ParticleLimits, Rising, SetLimits}
-use Rattle.particles.specs.Set.{validSize, setLength, validLength, recordAt, recordCount, recordsOf, admitted, setFrom, setAnswer}
-use Rattle.particles.proofs.Checks.{Admits, taken, counted, entered, size-limits, length-limits}
+use Rattle.particles.specs.Set.{validSize, setLength, validLength, recordAt, recordCount, recordsOf, checkedParticle, setFrom, setAnswer}
+use Rattle.particles.proofs.Checks.{ParticlePasses, taken, counted, entered, size-limits, length-limits}
 
 -- ---- no limit is broken
 
@@ -43,7 +43,7 @@ rising least [] r = tt
 rising least (p ∷ []) r = tt
 rising least (p ∷ q ∷ ps) r = (r .1 .0, rising (suc (p .identifier)) (q ∷ ps) (r .1))
 
-particle-limits : (nx ny least mass : ℕ) (p : Particle) → Valid p → p .identifier < 65536 → Admits nx ny least mass p → ParticleLimits nx ny p
+particle-limits : (nx ny least mass : ℕ) (p : Particle) → Valid p → p .identifier < 65536 → ParticlePasses nx ny least mass p → ParticleLimits nx ny p
 particle-limits nx ny least mass p v i a =
     record {
       identifier = i;
@@ -72,11 +72,11 @@ module _ (nx ny start : ℕ) (bytes : List ℕ) where
   walk-within (suc left) k least mass m e =
       let t = taken nx ny start bytes left k least mass e in
       let h = read-held k (recordAt start bytes k) (t .head) (t .read) in
-      let w = walk-within left (suc k) (suc (t .head .identifier)) (mass + t .head .mass) (t .admits .light) (t .rest) in
+      let w = walk-within left (suc k) (suc (t .head .identifier)) (mass + t .head .mass) (t .particle-passes .light) (t .rest) in
       subst (Within nx ny least mass) (t .is)
       (record {
-        each = (particle-limits nx ny least mass (t .head) (h .valid) (h .identifier-below) (t .admits), w .each);
-        rises = (t .admits .above, w .rises);
+        each = (particle-limits nx ny least mass (t .head) (h .valid) (h .identifier-below) (t .particle-passes), w .each);
+        rises = (t .particle-passes .above, w .rises);
         light = regroup mass (t .head .mass) (totalMass (t .tail)) (w .light);
       })
     where
@@ -139,9 +139,9 @@ is-true true t = refl
 is-true false t = absurd t
 
 module _ (nx ny : ℕ) where
-  admits : (k least mass : ℕ) (p : Particle) → ParticleLimits nx ny p → least ≤ p .identifier → mass + p .mass ≤ mostTotalMass → admitted nx ny k least mass p ≡ result p
-  unfolding admitted
-  admits k least mass p l h m =
+  particle-passes : (k least mass : ℕ) (p : Particle) → ParticleLimits nx ny p → least ≤ p .identifier → mass + p .mass ≤ mostTotalMass → checkedParticle nx ny k least mass p ≡ result p
+  unfolding checkedParticle
+  particle-passes k least mass p l h m =
       rw (
         is-true (onAxis nx (p .x)) (l .x-on),
         is-true (onAxis ny (p .y)) (l .y-on),
@@ -182,7 +182,7 @@ module _ (nx ny : ℕ) where
       let further = walk-back sizes (pre ++ recordOf p) ps start (suc k) (suc (p .identifier)) (mass + p .mass) longer (record { each = w .each .1; rises = w .rises .1; light = regroup mass (p .mass) (totalMass ps) (w .light) }) in
       rw (
         ap (readAnswer k) (first-record pre p (recordsOf ps) start k n) ∙ read-of-valid p (w .each .0 .identifier) (particle-valid p sizes (w .each .0)) k,
-        admits k least mass p (w .each .0) (w .rises .0) (first mass (p .mass) (totalMass ps) (w .light)),
+        particle-passes k least mass p (w .each .0) (w .rises .0) (first mass (p .mass) (totalMass ps) (w .light)),
       )
       (ap (λ a. andThen a (λ qs. result (p ∷ qs))) (rw (append-assoc pre (recordOf p) (recordsOf ps)) at further))
     where

@@ -17,7 +17,7 @@ use Rattle.particle.specs.Layout.{recordLength}
 use Rattle.particle.specs.Record.{particleOf, readParticle, readAnswer}
 use Rattle.spline.specs.Spline.{onAxis}
 use Rattle.apic.specs.Limits.{SizeLimits}
-use Rattle.particles.specs.Set.{validSize, setLength, validLength, recordAt, recordCount, onGrid, admitted, setFrom, setOf, setAnswer}
+use Rattle.particles.specs.Set.{validSize, setLength, validLength, recordAt, recordCount, onGrid, checkedParticle, setFrom, setOf, setAnswer}
 
 holds : {b : Bool} → b ≡ true → T b
 holds e = subst T (sym e) tt
@@ -58,15 +58,15 @@ read-long k bytes h = right-length (length bytes) recordLength _ h
 -- ---- an accepted set, record by record
 
 -- what the checks of one record say of it
-pub record Admits (nx ny least mass : ℕ) (p : Particle) : Type 0 where
+pub record ParticlePasses (nx ny least mass : ℕ) (p : Particle) : Type 0 where
   pub on-x : T (onAxis nx (p .x))
   pub on-y : T (onAxis ny (p .y))
   pub above : least ≤ p .identifier
   pub light : mass + p .mass ≤ mostTotalMass
 
-pub admitted-facts : (nx ny k least mass : ℕ) (p : Particle) {q : Particle} → admitted nx ny k least mass p ≡ result q → (p ≡ q) × Admits nx ny least mass p
-unfolding admitted
-admitted-facts nx ny k least mass p e =
+pub checked-facts : (nx ny k least mass : ℕ) (p : Particle) {q : Particle} → checkedParticle nx ny k least mass p ≡ result q → (p ≡ q) × ParticlePasses nx ny least mass p
+unfolding checkedParticle
+checked-facts nx ny k least mass p e =
     let a = passed (not (onGrid nx ny p)) 7 k _ e in
     let b = passed (ltb (p .identifier) least) 8 k _ (a .1) in
     let c = passed (ltb mostTotalMass (mass + p .mass)) 9 k _ (b .1) in
@@ -86,22 +86,22 @@ pub record Taken (nx ny start : ℕ) (bytes : List ℕ) (left k least mass : ℕ
   pub tail : List Particle
   pub is : head ∷ tail ≡ ps
   pub read : readAnswer k (recordAt start bytes k) ≡ result head
-  pub admits : Admits nx ny least mass head
+  pub particle-passes : ParticlePasses nx ny least mass head
   pub rest : setFrom nx ny start bytes left (suc k) (suc (head .identifier)) (mass + head .mass) ≡ result tail
 
 pub taken : (nx ny start : ℕ) (bytes : List ℕ) (left k least mass : ℕ) {ps : List Particle} → setFrom nx ny start bytes (suc left) k least mass ≡ result ps → Taken nx ny start bytes left k least mass ps
 unfolding setFrom
 taken nx ny start bytes left k least mass {ps} e =
     let a = went-on (readAnswer k (recordAt start bytes k)) _ e in
-    let b = went-on (admitted nx ny k least mass (a .0)) _ (a .2) in
+    let b = went-on (checkedParticle nx ny k least mass (a .0)) _ (a .2) in
     let c = went-on (setFrom nx ny start bytes left (suc k) (suc (b .0 .identifier)) (mass + b .0 .mass)) _ (b .2) in
-    let facts = admitted-facts nx ny k least mass (a .0) (b .1) in
+    let facts = checked-facts nx ny k least mass (a .0) (b .1) in
     record {
       head = b .0;
       tail = c .0;
       is = same-result (c .2);
       read = a .1 ∙ ap result (facts .0);
-      admits = subst (Admits nx ny least mass) (facts .0) (facts .1);
+      particle-passes = subst (ParticlePasses nx ny least mass) (facts .0) (facts .1);
       rest = c .1;
     }
 

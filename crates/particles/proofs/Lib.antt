@@ -1,5 +1,5 @@
 pub mod Checks
-pub mod Admitted
+pub mod CheckedParticle
 pub mod Turns
 pub mod Accepted
 pub mod Refusals

@@ -17,7 +17,7 @@ use Rattle.particle.specs.declared.Particle.{Particle}
 use Rattle.particle.specs.Layout.{recordLength}
 use Rattle.particle.specs.Record.{particleOf, lowestVelocity, lowestAffine, readParticle, readAnswer}
 use Rattle.apic.specs.Totals.{totalMass}
-use Rattle.particles.specs.Set.{validSize, validLength, recordAt, recordCount, admitted, setFrom, setOf, setAnswer}
+use Rattle.particles.specs.Set.{validSize, validLength, recordAt, recordCount, checkedParticle, setFrom, setOf, setAnswer}
 use Rattle.particles.specs.Meaning.{leastAfter, limitsOn, FirstBroken, here, later, Broken, Refuses}
 use Rattle.particles.proofs.Checks.{length-limits, record-long, read-long}
 
@@ -62,8 +62,8 @@ module _ (nx ny start : ℕ) (bytes : List ℕ) where
   allChecks k least mass = checks (limitsOn nx ny least mass (particleIn k)) k (result (particleIn k))
 
   -- the reader's checks and the set's are one list
-  one-list : {B : Type 0} (k least mass : ℕ) (next : Particle → Answer B) → start + recordLength * k + recordLength ≤ length bytes → andThen (readAnswer k (recordAt start bytes k)) (λ p. andThen (admitted nx ny k least mass p) next) ≡ andThen (allChecks k least mass) next
-  unfolding readParticle admitted checks
+  one-list : {B : Type 0} (k least mass : ℕ) (next : Particle → Answer B) → start + recordLength * k + recordLength ≤ length bytes → andThen (readAnswer k (recordAt start bytes k)) (λ p. andThen (checkedParticle nx ny k least mass p) next) ≡ andThen (allChecks k least mass) next
+  unfolding readParticle checkedParticle checks
   one-list k least mass next h =
       rw (read-long k (recordAt start bytes k) (record-long start bytes k h))
       (joined
@@ -71,7 +71,7 @@ module _ (nx ny start : ℕ) (bytes : List ℕ) where
       (lowestVelocity (particleIn k))
       (lowestAffine (particleIn k)))
     where
-      joined : (a b c : Bool) → andThen (refuseIf a 4 k (refuseIf b 5 k (refuseIf c 6 k (result (particleIn k))))) (λ p. andThen (admitted nx ny k least mass p) next) ≡ andThen (refuseIf a 4 k (refuseIf b 5 k (refuseIf c 6 k (admitted nx ny k least mass (particleIn k))))) next
+      joined : (a b c : Bool) → andThen (refuseIf a 4 k (refuseIf b 5 k (refuseIf c 6 k (result (particleIn k))))) (λ p. andThen (checkedParticle nx ny k least mass p) next) ≡ andThen (refuseIf a 4 k (refuseIf b 5 k (refuseIf c 6 k (checkedParticle nx ny k least mass (particleIn k))))) next
       joined true b c = refl
       joined false true c = refl
       joined false false true = refl

@@ -4,7 +4,7 @@
 --     Carried                what a loop carries along
 --     folded                 the same after some particles
 --     rest                   what is left from here on
---     rest-none, rest-next, rest-refused      its laws: no record left, one admitted, one refused
+--     rest-none, rest-next, rest-refused      its laws: no record left, one checkedParticle, one refused
 --     Left                   that this is the whole, in a loop's invariant, with a law for each way on
 --     Checking               the invariant of the check's loop, with the same laws
 -- Assumes nothing.
@@ -28,9 +28,9 @@ use Rattle.particle.specs.Record.{readAnswer, toldRead}
 use Rattle.particles.specs.declared.Entry.{Entry}
 use Rattle.particles.specs.declared.Entered.{Entered}
 use Rattle.particles.specs.declared.Entered.the-variants as entered
-use Rattle.particles.specs.Set.{recordAt, admitted, setFrom, setOf}
+use Rattle.particles.specs.Set.{recordAt, checkedParticle, setFrom, setOf}
 use Rattle.particles.specs.Walk.{followed, toldEntered, checkParticle, checkRecord, counted}
-use Rattle.particles.proofs.Checks.{admitted-facts, counted as all-counted}
+use Rattle.particles.proofs.Checks.{checked-facts, counted as all-counted}
 
 -- the part that the reader is handed is the record
 pub part-is : (at : ℕ) (bytes : List ℕ) → take (at + recordLength - at) (drop at bytes) ≡ take recordLength (drop at bytes)
@@ -89,7 +89,7 @@ module _ {S B : Type 0} (w : Carried S B) where
       turn a = andThen a (λ q. result (w .add s q))
 
       abbrev checks : Particle → Answer Particle
-      checks p = admitted nx ny k (w .entry s .least) (w .entry s .mass) p
+      checks p = checkedParticle nx ny k (w .entry s .least) (w .entry s .mass) p
 
       one-more : (q : Particle) → through (result q) ≡ rest left (suc k) (w .add s q)
       unfolding rest folded
@@ -101,9 +101,9 @@ module _ {S B : Type 0} (w : Carried S B) where
           go (result ps) = refl
           go (refused n j) = refl
 
-      next-admitted : (a : Answer Particle) {t : S} → turn a ≡ result t → through a ≡ rest left (suc k) t
-      next-admitted (result q) e = one-more q ∙ ap (rest left (suc k)) (same-result e)
-      next-admitted (refused n j) e = not-result e
+      next-checkedParticle : (a : Answer Particle) {t : S} → turn a ≡ result t → through a ≡ rest left (suc k) t
+      next-checkedParticle (result q) e = one-more q ∙ ap (rest left (suc k)) (same-result e)
+      next-checkedParticle (refused n j) e = not-result e
 
       next-refused : (a : Answer Particle) {n j : ℕ} → turn a ≡ refused n j → through a ≡ refused n j
       next-refused (result q) e = not-refused e
@@ -117,16 +117,16 @@ module _ {S B : Type 0} (w : Carried S B) where
       unfolding rest setFrom
       opened = refl
 
-      record-admitted : (a : Answer Particle) {t : S} → andThen a (λ p. turn (checks p)) ≡ result t → all-through a ≡ rest left (suc k) t
-      record-admitted (result p) e = next-admitted (checks p) e
-      record-admitted (refused n j) e = not-result e
+      record-checkedParticle : (a : Answer Particle) {t : S} → andThen a (λ p. turn (checks p)) ≡ result t → all-through a ≡ rest left (suc k) t
+      record-checkedParticle (result p) e = next-checkedParticle (checks p) e
+      record-checkedParticle (refused n j) e = not-result e
 
       record-refused : (a : Answer Particle) {n j : ℕ} → andThen a (λ p. turn (checks p)) ≡ refused n j → all-through a ≡ refused n j
       record-refused (result p) e = next-refused (checks p) e
       record-refused (refused n′ j′) e = same-refusal e
 
       pub rest-next : {t : S} → andThen (readAnswer k (recordAt start bytes k)) (λ p. turn (checks p)) ≡ result t → rest (suc left) k s ≡ rest left (suc k) t
-      rest-next e = opened ∙ record-admitted (readAnswer k (recordAt start bytes k)) e
+      rest-next e = opened ∙ record-checkedParticle (readAnswer k (recordAt start bytes k)) e
 
       pub rest-refused : {n j : ℕ} → andThen (readAnswer k (recordAt start bytes k)) (λ p. turn (checks p)) ≡ refused n j → rest (suc left) k s ≡ refused n j
       rest-refused e = opened ∙ record-refused (readAnswer k (recordAt start bytes k)) e
@@ -138,7 +138,7 @@ module _ {S B : Type 0} (w : Carried S B) where
       pub leaves : rest (count - k) k s ≡ whole
 
     abbrev turnAt : ℕ → S → Answer S
-    turnAt k s = andThen (readAnswer k (recordAt start bytes k)) (λ p. andThen (admitted nx ny k (w .entry s .least) (w .entry s .mass) p) (λ q. result (w .add s q)))
+    turnAt k s = andThen (readAnswer k (recordAt start bytes k)) (λ p. andThen (checkedParticle nx ny k (w .entry s .least) (w .entry s .mass) p) (λ q. result (w .add s q)))
 
     module _ (count : ℕ) (whole : Answer B) where
       pub left-start : (s : S) → rest count 0 s ≡ whole → Left count whole s 0
@@ -178,12 +178,12 @@ pub record Checking (nx ny start : ℕ) (bytes : List ℕ) (count : ℕ) (e : En
   pub left : Left (checking count) nx ny start bytes count (counted nx ny start bytes count) e k
 
 module _ (nx ny start : ℕ) (bytes : List ℕ) where
-  -- the mass after a record that is admitted
+  -- the mass after a record that is checkedParticle
   light-after : (k : ℕ) (e : Entry) {t : Entry} → checkRecord nx ny start bytes k e ≡ result t → t .mass ≤ mostTotalMass
   light-after k e h =
       let a = went-on (readAnswer k (recordAt start bytes k)) (λ p. checkParticle nx ny k e p) h in
-      let b = went-on (admitted nx ny k (e .least) (e .mass) (a .0)) (λ q. result (followed e q)) (a .2) in
-      let facts = admitted-facts nx ny k (e .least) (e .mass) (a .0) (b .1) in
+      let b = went-on (checkedParticle nx ny k (e .least) (e .mass) (a .0)) (λ q. result (followed e q)) (a .2) in
+      let facts = checked-facts nx ny k (e .least) (e .mass) (a .0) (b .1) in
       subst (λ x. x .mass ≤ mostTotalMass) (same-result (b .2)) (subst (λ q. e .mass + q .mass ≤ mostTotalMass) (facts .0) (facts .1 .light))
 
   checks-all : (count : ℕ) → rest (checking count) nx ny start bytes count 0 start-of-check ≡ counted nx ny start bytes count

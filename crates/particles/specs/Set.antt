@@ -26,8 +26,8 @@ onGrid nx ny p = onAxis nx (p .x) && onAxis ny (p .y)
 
 -- 7 off the grid, 8 identifier not above the one before, 9 mass so far above 131,072; `least` is one more than the
 -- identifier before, and 0 at the first record
-unfoldable pub admitted : ℕ → ℕ → ℕ → ℕ → ℕ → Particle → Answer Particle
-admitted nx ny k least mass p =
+unfoldable pub checkedParticle : ℕ → ℕ → ℕ → ℕ → ℕ → Particle → Answer Particle
+checkedParticle nx ny k least mass p =
     refuseIf (not (onGrid nx ny p)) 7 k
     (refuseIf (ltb (p .identifier) least) 8 k (refuseIf (ltb mostTotalMass (mass + p .mass)) 9 k (result p)))
 
@@ -37,7 +37,7 @@ setFrom nx ny start bytes zero k least mass = result []
 setFrom nx ny start bytes (suc left) k least mass =
     andThen (readAnswer k (recordAt start bytes k))
     (λ p.
-    andThen (admitted nx ny k least mass p)
+    andThen (checkedParticle nx ny k least mass p)
     (λ q.
     andThen (setFrom nx ny start bytes left (suc k) (suc (q .identifier)) (mass + q .mass)) (λ ps. result (q ∷ ps))))
 

@@ -9,7 +9,7 @@ use Rattle.particle.specs.Record.{readAnswer}
 use Rattle.particles.specs.declared.Entry.{Entry}
 use Rattle.particles.specs.declared.Entered.{Entered}
 use Rattle.particles.specs.declared.Entered.the-variants as entered
-use Rattle.particles.specs.Set.{admitted, recordAt, setOf}
+use Rattle.particles.specs.Set.{checkedParticle, recordAt, setOf}
 
 -- how far the check is after one more particle
 abbrev pub followed : Entry → Particle → Entry
@@ -20,7 +20,7 @@ toldEntered (entered.Passed e) = result e
 toldEntered (entered.Refused f) = refusedBy f
 
 abbrev pub checkParticle : ℕ → ℕ → ℕ → Entry → Particle → Answer Entry
-checkParticle nx ny k e p = andThen (admitted nx ny k (e .least) (e .mass) p) (λ q. result (followed e q))
+checkParticle nx ny k e p = andThen (checkedParticle nx ny k (e .least) (e .mass) p) (λ q. result (followed e q))
 
 -- and after the record with index k
 abbrev pub checkRecord : ℕ → ℕ → ℕ → List ℕ → ℕ → Entry → Answer Entry

@@ -78,7 +78,7 @@ fn check_record(nx: usize, ny: usize, bytes: &[u8], start: usize, k: usize, entr
     ensures { λ r. ⌜ toldEntered r ≡ checkRecord nx ny start (now (bytes .entry)) k entry ⌝ }
 {
     let at = start + RECORD_LENGTH * k;
-    match particle::read_indexed(&bytes[at..at + RECORD_LENGTH], k) {
+    match record_reader::read_indexed(&bytes[at..at + RECORD_LENGTH], k) {
         Read::Found(p) => check_particle(p, k, nx, ny, entry),
         Read::Refused(refusal) => Entered::Refused(refusal),
     }

@@ -4,12 +4,12 @@ use Rattle.arith.specs.Rounding.{nearest}
 use Rattle.spline.specs.Spline.{nearestNode, offset, onAxis, axisWeight}
 use Rattle.particle.specs.Record.{particleOf, recordOf, readParticle, readAnswer}
 use Rattle.apic.specs.Step.{nodeMass, nodeMomentum, nodeVelocity, gatheredVelocity, gatheredAffine, moved}
-use Rattle.particles.specs.Set.{admitted, setFrom, recordsOf, particlesIn}
-use Rattle.gather_core.specs.Gather.{moveCheck, moveChecks}
+use Rattle.particles.specs.Set.{checkedParticle, setFrom, recordsOf, particlesIn}
+use Rattle.gathering.specs.Gather.{moveCheck, moveChecks}
 use Rattle.update.specs.Update.{velocities}
 use Rattle.entry.specs.Entry.{beginAnswer, entryAnswer}
-use Rattle.simulation.specs.Step.{masses, momenta, updatedVelocities, stepped, stepOf}
-use Rattle.simulation.specs.Run.{runFrom, runEntry, runAfter}
+use Rattle.simulation.specs.Step.{massesBy, momentaBy, velocitiesBy, steppedBy, stepBy}
+use Rattle.simulation.specs.Run.{runBy, runEntry, runAfter}
 use Rattle.bath_file.specs.File.{headerIn, checkedHeader, headerAnswer, recordsAnswer}
 use Rattle.text.specs.Decimal.{digitsWithin, decimal, signed}
 use Rattle.report.specs.Lines.{refusedLine, doneLine, totalsLine, particleLine, particleLines}
@@ -19,5 +19,5 @@ use Rattle.program.specs.Program.{programText}
 use Rattle.program.specs.Examples.{Examples}
 
 pub examples : Examples
-unfolding nearest nearestNode offset onAxis axisWeight particleOf recordOf readParticle readAnswer admitted setFrom recordsOf particlesIn nodeMass nodeMomentum nodeVelocity gatheredVelocity gatheredAffine moved moveCheck moveChecks velocities masses momenta updatedVelocities stepped stepOf runFrom entryAnswer beginAnswer runEntry runAfter headerIn checkedHeader headerAnswer recordsAnswer digitsWithin decimal signed refusedLine doneLine totalsLine particleLine particleLines runText reportOf programText
+unfolding nearest nearestNode offset onAxis axisWeight particleOf recordOf readParticle readAnswer checkedParticle setFrom recordsOf particlesIn nodeMass nodeMomentum nodeVelocity gatheredVelocity gatheredAffine moved moveCheck moveChecks velocities massesBy momentaBy velocitiesBy steppedBy stepBy runBy entryAnswer beginAnswer runEntry runAfter headerIn checkedHeader headerAnswer recordsAnswer digitsWithin decimal signed refusedLine doneLine totalsLine particleLine particleLines runText reportOf programText
 examples = record { printed = refl; stopped = refl; refused = refl }

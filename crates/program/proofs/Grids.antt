@@ -7,14 +7,14 @@ use Rattle.particle.specs.declared.Particle.{Particle}
 use Rattle.settings.specs.declared.Settings.{Settings}
 use Rattle.apic.specs.Step.{Grids}
 use Rattle.simulation.specs.Step.{After}
-use Rattle.simulation.specs.Run.{Completion, runFrom, runEntry, runAfter}
+use Rattle.simulation.specs.Run.{Completion, runFrom, runBy, runEntry, runAfter}
 use Rattle.program.specs.Laws.{SameLengths, AnyGrids}
 
 abbrev SameRun : After Completion → After Completion → Type 0
 SameRun a b = (a .answer ≡ b .answer) × (a .records ≡ b .records)
 
 same-steps : (s : Settings) (n : ℕ) (records : List ℕ) (ps : List Particle) (g h : Grids) → SameRun (runFrom s n records ps g) (runFrom s n records ps h)
-unfolding runFrom
+unfolding runBy
 same-steps s zero records ps g h = (refl, refl)
 same-steps s (suc n) records ps g h = (refl, refl)
 

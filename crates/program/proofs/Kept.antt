@@ -6,6 +6,7 @@ use Prim.Native.Nat.{ℕ, zero, suc}
 use mathlib.Core.Path.{_≡_, refl, sym, ap, _∙_, subst}
 use mathlib.Core.List.{List}
 use Rattle.refusal.specs.Refused.{Answer, result, refused, andThen}
+use Rattle.spline.specs.Spline.{axisWeight, D}
 use Rattle.particle.specs.declared.Particle.{Particle}
 use Rattle.apic.specs.Limits.{SetLimits}
 use Rattle.particles.specs.Set.{recordsOf, setAnswer, particlesIn}
@@ -14,8 +15,8 @@ use Rattle.particles.proofs.Accepted.{accepted-limits, limits-accepted}
 use Rattle.settings.specs.declared.Settings.{Settings}
 use Rattle.apic.specs.Step.{Grids}
 use Rattle.simulation.specs.Step.{nodesOf, stepOf}
-use Rattle.simulation.specs.Run.{runFrom, runEntry, runAfter}
-use Rattle.packing.proofs.Sets.{particlesIn-accepted}
+use Rattle.simulation.specs.Run.{runFrom, runBy, runEntry, runAfter}
+use Rattle.unpacking.proofs.Sets.{particlesIn-accepted}
 use Rattle.simulation.proofs.Steps.{step-result, completed, limits-after}
 use Rattle.simulation.proofs.Calls.{ready-run}
 
@@ -40,11 +41,11 @@ module _ (s : Settings) where
 
   next-kept : (records : List ℕ) {ps qs : List Particle} → Holds records ps → stepOf s ps ≡ result qs → Holds (recordsOf qs) qs
   next-kept records {ps} {qs} e f =
-      let limits = limits-after s ps (completed s ps (accepted-limits (s .nx) (s .ny) records e) f) in
-      limits-accepted (s .nx) (s .ny) qs (subst (SetLimits (s .nx) (s .ny)) (step-result s ps f .1) limits)
+      let limits = limits-after axisWeight D s ps (completed axisWeight D s ps (accepted-limits (s .nx) (s .ny) records e) f) in
+      limits-accepted (s .nx) (s .ny) qs (subst (SetLimits (s .nx) (s .ny)) (step-result axisWeight D s ps f .1) limits)
 
   steps-kept : (n : ℕ) (records : List ℕ) (ps : List Particle) (grids : Grids) → Holds records ps → Kept (runFrom s n records ps grids .records)
-  unfolding runFrom
+  unfolding runBy
   steps-kept zero records ps grids e = record { particles = ps; set = e }
   steps-kept (suc n) records ps grids e = go (λ qs. steps-kept n (recordsOf qs) qs (nodesOf s ps)) (stepOf s ps) refl
     where

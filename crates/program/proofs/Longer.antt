@@ -13,11 +13,11 @@ use Rattle.limits.specs.Limits.{mostRecords}
 use Rattle.particle.specs.Layout.{recordLength}
 use Rattle.bath_file.specs.declared.Header.{Header}
 use Rattle.bath_file.specs.Layout.{headerLength}
-use Rattle.bath_file.specs.File.{headerAnswer, recordsAnswer, fileAnswer}
+use Rattle.bath_file.specs.File.{headerAnswer, recordsAnswer, roomForFile, fileAnswer}
 use Rattle.bath_file.proofs.Answers.{header-held, wrong-records}
 use Rattle.report.specs.Lines.{refusedLine}
 use Rattle.program.specs.Program.{programText}
-use Rattle.program.specs.Laws.{roomForFile, LongerInput}
+use Rattle.program.specs.Laws.{LongerInput}
 use Rattle.program.proofs.Files.{text-by}
 
 -- two long inputs with the same first bytes have the same header

@@ -2,15 +2,14 @@
 --     AnyGrids      no run depends on what its grids hold
 --     LongerInput   of a longer input the first `roomForFile` bytes decide
 -- Assumes nothing.
-use Prim.Native.Nat.{ℕ, _+_}
+use Prim.Native.Nat.{ℕ}
 use mathlib.Core.Path.{_≡_}
 use mathlib.Core.List.{List}
 use lib.ListN.{length, take}
 use Rattle.settings.specs.declared.Settings.{Settings}
 use Rattle.apic.specs.Step.{Grids}
 use Rattle.simulation.specs.Run.{runAfter}
-use Rattle.particles.specs.Set.{setLength}
-use Rattle.bath_file.specs.Layout.{headerLength}
+use Rattle.bath_file.specs.File.{roomForFile}
 use Rattle.program.specs.Program.{programText}
 
 pub record SameLengths (g h : Grids) : Type 0 where
@@ -25,10 +24,6 @@ AnyGrids =
     SameLengths g h →
     (runAfter s steps records g .answer ≡ runAfter s steps records h .answer)
     × (runAfter s steps records g .records ≡ runAfter s steps records h .records)
-
--- one byte more than the longest file that is accepted
-abbrev pub roomForFile : ℕ
-roomForFile = headerLength + setLength + 1
 
 -- whoever reads as many bytes of an input knows what the program prints of all of it
 abbrev pub LongerInput : Type 0

@@ -1,12 +1,17 @@
--- Laws of answers: a result is no refusal, two equal answers have equal parts, and a check that is passed is not seen.
+-- Laws of answers: a result is no refusal, two equal answers have equal parts, a check that is passed is not seen, and a group
+-- of places passes where each place does.
+--     each-end, each-turn                  a group at its end, and its next place
+--     each-pass, pass-each                 a group passes where each place does, and only there
 -- Assumes nothing.
-use mathlib.Core.Path.{_≡_, refl, sym, subst}
+use mathlib.Core.Path.{_≡_, refl, sym, ap, subst, _∙_}
 use mathlib.Core.Bool.{Bool, true, false, not}
 use borrow.Author.Tests.{eq-eqb, ne-eqb, eqb-true, not-false}
 use lib.Dec.{eqb}
-use Prim.Native.Nat.{ℕ}
+use Prim.Native.Nat.{ℕ, zero, suc, _+_, _-_, _≤_, _<_}
+use native.Mathlib.Nat.{add-zero, add-suc, suc-add, le-of-suc-le-suc, not-suc-le-zero}
+use native.Mathlib.Numerals.{add-one}
 use native.Mathlib.Omega.{arith}
-use Rattle.refusal.specs.Refused.{Answer, result, refused, refuseIf, andThen, done, Leaves}
+use Rattle.refusal.specs.Refused.{Answer, result, refused, refuseIf, andThen, done, forEach, Leaves}
 
 never : _≡_ {A = ℕ} 0 1 → ⊥
 never z = omega arith
@@ -57,3 +62,31 @@ module _ {A B : Type 0} {a : Answer A} {new : A → B} {old : B} where
 
   pub done-leaves : {x : A} {left : B} → a ≡ result x → left ≡ new x → Leaves a new old done left
   done-leaves {left = left} e l = subst (λ b. Leaves b new old done left) (sym e) (record { answer = refl; left-is = l })
+
+-- ---- a group
+
+module _ (check : ℕ → Answer Unit) where
+  pub each-end : (k n : ℕ) → n ≤ k → forEach check k (n - k) ≡ done
+  each-end k n h = ap (λ m. forEach check k m) none
+    where
+      none : n - k ≡ zero
+      none = omega arith
+
+  pub each-turn : (k n : ℕ) → k < n → forEach check k (n - k) ≡ andThen (check k) (λ _. forEach check (k + 1) (n - (k + 1)))
+  each-turn k n h = ap (λ m. forEach check k m) next ∙ ap (λ j. andThen (check k) (λ _. forEach check j (n - (k + 1)))) (sym (add-one k))
+    where
+      next : n - k ≡ suc (n - (k + 1))
+      next = omega arith
+
+  pub each-pass : (i n : ℕ) → ((k : ℕ) → k < n → check (i + k) ≡ done) → forEach check i n ≡ done
+  each-pass i zero h = refl
+  each-pass i (suc n) h =
+      ap (λ a. andThen a (λ _. forEach check (suc i) n)) (ap check (sym (add-zero i)) ∙ h zero (omega arith))
+      ∙ each-pass (suc i) n (λ k l. ap check (suc-add i k ∙ sym (add-suc i k)) ∙ h (suc k) (omega arith))
+
+  pub pass-each : (i n : ℕ) → forEach check i n ≡ done → (k : ℕ) → k < n → check (i + k) ≡ done
+  pass-each i zero e k h = absurd (not-suc-le-zero h)
+  pass-each i (suc n) e zero h = ap check (add-zero i) ∙ went-on (check i) (λ _. forEach check (suc i) n) e .1
+  pass-each i (suc n) e (suc k) h =
+      ap check (add-suc i k ∙ sym (suc-add i k))
+      ∙ pass-each (suc i) n (went-on (check i) (λ _. forEach check (suc i) n) e .2) k (le-of-suc-le-suc h)

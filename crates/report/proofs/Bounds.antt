@@ -14,6 +14,7 @@ use Rattle.particle.specs.Layout.{identifier, mass, x, y, vx, vy, Bxx, Bxy, Byx
 use Rattle.particle.specs.Record.{particleOf, numbers}
 use Rattle.particle.proofs.RoundTrip.{fields-hold}
 use Rattle.totals.specs.declared.Totals.{Totals}
+use Rattle.totals.proofs.Fields.{Typed}
 use Rattle.particles.specs.Set.{recordAt, recordCount, validLength, particlesIn}
 use Rattle.particles.proofs.Checks.{length-limits}
 use Rattle.text.specs.Decimal.{bytesOf, decimal, signed}
@@ -65,18 +66,10 @@ done-length c n k f h g =
     line-length (bytesOf "done" ∷ decimal c ∷ bytesOf "refusal" ∷ decimal n ∷ bytesOf "at" ∷ decimal k ∷ []) (4 ∷ 20 ∷ 7 ∷ 3 ∷ 2 ∷ 20 ∷ [])
     (lit≤ tt, (decimal-length 19 c (omega arith), (lit≤ tt, (decimal-length 2 n (omega arith), (lit≤ tt, (decimal-length 19 k (omega arith), tt))))))
 
--- the totals are 64-bit numbers
-pub record TotalsFit (t : Totals) : Type 0 where
-  pub mass : t .mass < 2 ^ 64
-  pub px : mag (t .px) < 2 ^ 63
-  pub py : mag (t .py) < 2 ^ 63
-  pub spin : mag (t .spin) < 2 ^ 63
-  pub motion : mag (t .motion) < 2 ^ 63
-
 wide : (z : ℤ) → mag z < 2 ^ 63 → length (signed z) ≤ 20
 wide z h = signed-length 18 z (omega (arith, natAbs-le z h))
 
-totals-length : (t : Totals) → TotalsFit t → length (totalsLine t) ≤ 128
+totals-length : (t : Totals) → Typed t → length (totalsLine t) ≤ 128
 unfolding totalsLine
 totals-length t f =
     line-length
@@ -144,7 +137,7 @@ lines-length records (k ∷ ks) =
 
 -- ---- the report
 
-pub run-length : (c n k : ℕ) (t : Totals) (records : List ℕ) → c < 2 ^ 64 → n < 256 → k < 2 ^ 64 → TotalsFit t → validLength (length records) ≡ true → length (runText c n k t records) ≤ reportLength
+pub run-length : (c n k : ℕ) (t : Totals) (records : List ℕ) → c < 2 ^ 64 → n < 256 → k < 2 ^ 64 → Typed t → validLength (length records) ≡ true → length (runText c n k t records) ≤ reportLength
 unfolding runText particlesIn
 run-length c n k t records f g h fit valid =
     let first = doneLine c n k in

@@ -11,8 +11,6 @@ use unpacked::NUMBERS;
 ghost use Prim.Native.Nat.{_*_, _≤_};
 ghost use lib.ListN.{length};
 ghost use Rattle.particle.specs.Layout.{recordLength};
-ghost use Rattle.particles.specs.Set.{recordCount};
-ghost use Rattle.unpacked.specs.Unpacked.{perParticle};
 ghost use Rattle.apic.specs.Step.{gridsOf};
 ghost use Rattle.simulation.specs.Step.{Sees, toldStepped, stepAfter};
 ghost use Rattle.simulation.specs.Run.{toldRan, runAfter};
@@ -32,34 +30,7 @@ const MIDDLE_LENGTH: usize = MIDDLE * RECORD_LENGTH;
 
 const MIDDLE_NUMBERS: usize = MIDDLE * NUMBERS;
 
-// Runs an accepted set with the first parts of two arrays that have room for the set. `run_small`, `run_middle` and `run_large` call it.
-fn run_part(
-    settings: Settings,
-    steps: usize,
-    records: &mut [u8],
-    mass: &mut [u64],
-    px: &mut [i64],
-    py: &mut [i64],
-    a: &mut [i16],
-    b: &mut [i16],
-) -> Ran
-    requires { ⌜ RunReady settings (now records) (now mass) (now px) (now py) × (perParticle * recordCount (now records) ≤ length (now a)) × (perParticle * recordCount (now records) ≤ length (now b)) ⌝ }
-    ensures { λ r. ⌜ Runs settings steps (now (records .entry)) (now (mass .entry)) (now (px .entry)) (now (py .entry)) r (now (records .exit)) (now (mass .exit)) (now (px .exit)) (now (py .exit)) ⌝ }
-{
-    let size = NUMBERS * (records.len() / RECORD_LENGTH);
-    run_core::run_numbers(
-        settings,
-        steps,
-        records,
-        mass,
-        px,
-        py,
-        &mut a[..size],
-        &mut b[..size],
-    )
-}
-
-// The same with arrays of its own, for a small set. `run_set` calls it.
+// Runs an accepted set with arrays of its own, for a small set. `run` calls it.
 fn run_small(
     settings: Settings,
     steps: usize,
@@ -73,10 +44,10 @@ fn run_small(
 {
     let mut a = [0i16; SMALL_NUMBERS];
     let mut b = [0i16; SMALL_NUMBERS];
-    run_part(settings, steps, records, mass, px, py, &mut a, &mut b)
+    run_set::run_set(settings, steps, records, mass, px, py, &mut a, &mut b)
 }
 
-// The same for a middle set. `run_set` calls it. No middle set is as long as the call to itself asks: that call keeps the
+// The same for a middle set. `run` calls it. No middle set is as long as the call to itself asks: that call keeps the
 // compiler from making this function, and its arrays, a part of `run`, which would need their stack for every call.
 fn run_middle(
     settings: Settings,
@@ -94,10 +65,10 @@ fn run_middle(
     }
     let mut a = [0i16; MIDDLE_NUMBERS];
     let mut b = [0i16; MIDDLE_NUMBERS];
-    run_part(settings, steps, records, mass, px, py, &mut a, &mut b)
+    run_set::run_set(settings, steps, records, mass, px, py, &mut a, &mut b)
 }
 
-// The same for any set, in the same way. `run_set` calls it.
+// The same for any set, in the same way. `run` calls it.
 fn run_large(
     settings: Settings,
     steps: usize,
@@ -114,28 +85,7 @@ fn run_large(
     }
     let mut a = [0i16; SET_NUMBERS];
     let mut b = [0i16; SET_NUMBERS];
-    run_part(settings, steps, records, mass, px, py, &mut a, &mut b)
-}
-
-// The same with arrays by the set's size, since arrays are cleared at each call. `run` calls it.
-fn run_set(
-    settings: Settings,
-    steps: usize,
-    records: &mut [u8],
-    mass: &mut [u64],
-    px: &mut [i64],
-    py: &mut [i64],
-) -> Ran
-    requires { ⌜ RunReady settings (now records) (now mass) (now px) (now py) ⌝ }
-    ensures { λ r. ⌜ Runs settings steps (now (records .entry)) (now (mass .entry)) (now (px .entry)) (now (py .entry)) r (now (records .exit)) (now (mass .exit)) (now (px .exit)) (now (py .exit)) ⌝ }
-{
-    if records.len() <= SMALL_LENGTH {
-        return run_small(settings, steps, records, mass, px, py);
-    }
-    if records.len() <= MIDDLE_LENGTH {
-        return run_middle(settings, steps, records, mass, px, py);
-    }
-    run_large(settings, steps, records, mass, px, py)
+    run_set::run_set(settings, steps, records, mass, px, py, &mut a, &mut b)
 }
 
 // As many steps as wanted, or until one is refused: the records then hold the last completed step, and the grids the masses
@@ -152,9 +102,17 @@ pub fn run(
 {
     let buffers = Buffers::Three(mass.len(), px.len(), py.len());
     match entry::check(settings, buffers, steps, records) {
-        Checked::Refused(refusal) => Ran::Stopped(0, refusal),
-        Checked::Records(_) => run_set(settings, steps, records, mass, px, py),
+        Checked::Refused(refusal) => return Ran::Stopped(0, refusal),
+        Checked::Records(_) => {}
     }
+    // An array is cleared at each call, so a set takes the smallest that has room.
+    if records.len() <= SMALL_LENGTH {
+        return run_small(settings, steps, records, mass, px, py);
+    }
+    if records.len() <= MIDDLE_LENGTH {
+        return run_middle(settings, steps, records, mass, px, py);
+    }
+    run_large(settings, steps, records, mass, px, py)
 }
 
 // One step, which is a run of one: on success the records hold the moved particles; refused, they are as they were.

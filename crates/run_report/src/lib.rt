@@ -49,7 +49,7 @@ pub fn put(outcome: Outcome, records: &[u8], text: &mut [u8]) -> usize
     requires { ⌜ (validLength (length (now records)) ≡ true) × (reportLength ≤ length (now text)) ⌝ }
     ensures { λ r. ⌜ Begins (textOf outcome (now (records .entry))) (now (text .entry)) r (now (text .exit)) ⌝ }
 {
-    match report::report(outcome, records, text) {
+    match report_text::report(outcome, records, text) {
         Reported::Length(n) => n,
         Reported::Refused(_) => 0,
     }

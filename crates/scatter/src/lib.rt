@@ -7,37 +7,14 @@ use transfer::PART_LENGTH;
 use transfer::PART_NUMBERS;
 use transfer::Scattered;
 use unpacked::NUMBERS;
-ghost use mathlib.Core.Path.{_≡_};
 ghost use Prim.Native.Nat.{_*_};
-ghost use lib.ListN.{length};
 ghost use Rattle.spline.specs.Spline.{axisWeight, D};
 ghost use Rattle.spline.specs.Kernel.{weightIn};
-ghost use Rattle.particle.specs.Layout.{recordLength};
-ghost use Rattle.particles.specs.Set.{recordCount, particlesIn};
-ghost use Rattle.unpacked.specs.Unpacked.{perParticle};
+ghost use Rattle.particles.specs.Set.{particlesIn};
 ghost use Rattle.scatter_core.specs.Scatter.{ScatteredGrids};
 ghost use Rattle.scatter_particle.specs.Added.{Added};
 ghost use Rattle.transfer.specs.Transfer.{toldScattered, ScatterIs};
-ghost use Rattle.transfer.specs.Internal.{part, ScatterSet, AddReady, PartReady};
-
-// Adds the particles of some records of a set, which are unpacked into an array of as many numbers. `scatter_parts` calls it.
-fn scatter_part(
-    nx: usize,
-    ny: usize,
-    records: &[u8],
-    array: &mut [i16],
-    table: &[[u16; 3]; 64],
-    d: u64,
-    mass: &mut [u64],
-    px: &mut [i64],
-    py: &mut [i64],
-)
-    requires { ⌜ PartReady nx ny (now records) (now table) d (now mass) (now px) (now py) × (length (now array) ≡ perParticle * recordCount (now records)) ⌝ }
-    ensures { λ _. ⌜ Added (weightIn (now (table .entry))) d nx ny (particlesIn (now (records .entry))) (now (mass .entry)) (now (px .entry)) (now (py .entry)) (now (mass .exit)) (now (px .exit)) (now (py .exit)) ⌝ }
-{
-    packing::unpack_set(records, array);
-    scatter_core::add_all(array, nx, ny, table, d, mass, px, py);
-}
+ghost use Rattle.transfer.specs.Internal.{ScatterSet, PartsReady};
 
 // Adds a set to cleared grids, part by part, through an array with room for the numbers of a part. `scatter_set` calls it.
 fn scatter_parts(
@@ -51,14 +28,14 @@ fn scatter_parts(
     px: &mut [i64],
     py: &mut [i64],
 )
-    requires { ⌜ AddReady nx ny (now records) (now table) d (now mass) (now px) (now py) × (recordLength * recordCount (now records) ≡ length (now records)) × (length (now array) ≡ part * perParticle) ⌝ }
+    requires { ⌜ PartsReady nx ny (now records) (now array) (now table) d (now mass) (now px) (now py) ⌝ }
     ensures { λ _. ⌜ Added (weightIn (now (table .entry))) d nx ny (particlesIn (now (records .entry))) (now (mass .entry)) (now (px .entry)) (now (py .entry)) (now (mass .exit)) (now (px .exit)) (now (py .exit)) ⌝ }
 {
     let count = records.len() / RECORD_LENGTH;
     let mut k = 0;
     while k + PART <= count {
         let at = RECORD_LENGTH * k;
-        scatter_part(
+        transfer_part::scatter_part(
             nx,
             ny,
             &records[at..at + PART_LENGTH],
@@ -72,7 +49,7 @@ fn scatter_parts(
         k += PART;
     }
     let size = NUMBERS * (count - k);
-    scatter_part(
+    transfer_part::scatter_part(
         nx,
         ny,
         &records[RECORD_LENGTH * k..],

@@ -6,6 +6,7 @@ use Prim.Native.Nat.{ℕ, _+_, _-_, _*_, _≤_, _<_}
 use lib.ListN.{length}
 use lib.IntN.{ℤ, pos, _+ℤ_, _-ℤ_, _*ℤ_}
 use Rattle.arith.specs.Size.{Bound}
+use Rattle.limits.specs.Limits.{mostMass, mostVelocity, mostAffine}
 use Rattle.spline.specs.declared.AxisWeights.{AxisWeights}
 use Rattle.spline.specs.Kernel.{mostD, WeightsMost}
 use Rattle.grid_cells.specs.Cells.{addRow, addMassRow, Cells, mostHeld}
@@ -17,17 +18,20 @@ unfoldable pub momentumRow : List ℤ → ℕ → ℕ → ℕ → ℕ → ℤ �
 momentumRow l k lower nearest upper s b =
     addRow l k (pos lower *ℤ (s -ℤ b)) (pos nearest *ℤ s) (pos upper *ℤ (s +ℤ b))
 
--- the most of mass times weight
+-- the most of mass times one axis's weight, and times the weights of both
+abbrev pub mostLineMass : ℕ
+mostLineMass = mostMass * 8192
+
 abbrev pub mostMassWeight : ℕ
-mostMassWeight = 1023 * 67108864
+mostMassWeight = mostMass * 67108864
 
 -- the most of b, 64 times an entry of B; of s at the nearest node, which is D·v and two entries of B times at most 32; of s
 -- one line from it; and of s at any of the nine nodes
 abbrev pub mostChange : ℕ
-mostChange = 64 * 2047
+mostChange = 64 * mostAffine
 
 abbrev pub mostMiddle : ℕ
-mostMiddle = mostD * 63 + 2 * (2047 * 32)
+mostMiddle = mostD * mostVelocity + 2 * (mostAffine * 32)
 
 abbrev pub mostSpeed : ℕ
 mostSpeed = mostMiddle + mostChange
@@ -58,7 +62,7 @@ pub record Held (n size : ℕ) (mass : List ℕ) (px py : List ℤ) : Type 0 whe
 pub record LineNumbers (size k c : ℕ) (w : AxisWeights) (sx bx sy by : ℤ) : Type 0 where
   pub low : 1 ≤ k
   pub high : k + 1 < size
-  pub c-most : c ≤ 8380416
+  pub c-most : c ≤ mostLineMass
   pub weights : WeightsMost w
   pub sx-most : Bound sx mostSpeed
   pub bx-most : Bound bx mostChange
@@ -90,7 +94,7 @@ pub record BlockLimits (size nx : ℕ) (mass : List ℕ) (px py : List ℤ) (k m
   pub low : nx + 1 ≤ k
   pub high : k + nx + 1 < size
   pub held : Held mostBefore size mass px py
-  pub m-most : m ≤ 1023
+  pub m-most : m ≤ mostMass
   pub x-weights : WeightsMost wx
   pub y-weights : WeightsMost wy
   pub sx-most : Bound sx mostMiddle

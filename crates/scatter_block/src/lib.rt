@@ -3,12 +3,12 @@
 ghost use mathlib.Core.Path.{_≡_};
 ghost use Prim.Native.Nat.{_*_, _≤_};
 ghost use lib.ListN.{length};
-ghost use Rattle.scatter_block.specs.Lines.{momentumRow, MomentumLimits, LineLimits, LineAdded, BlockLimits, BlockAdded};
+ghost use Rattle.scatter_block.specs.Lines.{mostLineMass, momentumRow, MomentumLimits, LineLimits, LineAdded, BlockLimits, BlockAdded};
 use spline::AxisWeights;
 
 // A mass, or a mass times one axis's weight, times a weight.
 fn times(c: u64, w: u16) -> u64
-    requires { ⌜ (c ≤ 8380416) × (w ≤ 8192) ⌝ }
+    requires { ⌜ (c ≤ mostLineMass) × (w ≤ 8192) ⌝ }
     ensures { λ r. ⌜ r ≡ c * w ⌝ }
 {
     c * (w as u64)
@@ -44,9 +44,9 @@ fn add_line(
     let lower = times(c, w.lower);
     let nearest = times(c, w.nearest);
     let upper = times(c, w.upper);
-    grid_cells::add_mass_row(mass, k, lower, nearest, upper);
-    add_momenta(px, k, lower, nearest, upper, sx, bx);
     add_momenta(py, k, lower, nearest, upper, sy, by);
+    add_momenta(px, k, lower, nearest, upper, sx, bx);
+    grid_cells::add_mass_row(mass, k, lower, nearest, upper);
 }
 
 // Adds a particle's shares to the nine nodes around node k of each grid. The B entries are times 64, the distance between

@@ -12,6 +12,7 @@ use lib.ListN.{take, drop, length-drop}
 use lib.Seq.{take-add}
 use lib.IntN.{ℤ}
 use Rattle.arith.specs.Lists.{each-drop, length-take-most, total-drop}
+use Rattle.limits.specs.Limits.{mostTotalMass}
 use Rattle.spline.specs.Kernel.{weightIn, Kernel}
 use Rattle.particle.specs.declared.Particle.{Particle}
 use Rattle.apic.specs.Totals.{totalMass}
@@ -56,9 +57,9 @@ module _ {nx ny : ℕ} (ps : List Particle) (limits : SetLimits nx ny ps) (k n :
       dropped : Limited nx ny (drop k ps)
       dropped = record { each = each-drop (ParticleLimits nx ny) k ps (limits .each); mass = le-trans (total-drop (λ p. p .mass) k ps) (limits .mass) }
 
-  both-light : totalMass (take k ps) + totalMass (take n (drop k ps)) ≤ 131072
+  both-light : totalMass (take k ps) + totalMass (take n (drop k ps)) ≤ mostTotalMass
   both-light =
-      subst (λ m. m ≤ 131072) (ap totalMass (take-add k n ps) ∙ total-append (take k ps) (take n (drop k ps)))
+      subst (λ m. m ≤ mostTotalMass) (ap totalMass (take-add k n ps) ∙ total-append (take k ps) (take n (drop k ps)))
       (limited-take (k + n) ps (limited-set limits) .mass)
 
   module _ {table : List (List ℕ)} {D : ℕ} (kernel : Kernel table D) {mass mass′ : List ℕ} {px py px′ py′ : List ℤ} (before : Added (weightIn table) D nx ny (take k ps) mass px py mass′ px′ py′) where

@@ -19,6 +19,7 @@ use lib.IntN.{ℤ, pos, natAbs, _+ℤ_, +ℤ-idr, +ℤ-idl}
 use Rattle.arith.specs.Size.{Bound, bound-widen}
 use Rattle.arith.specs.Lists.{each-append, total-take}
 use Rattle.arith.specs.Sums.{Each, sum-append}
+use Rattle.limits.specs.Limits.{mostTotalMass}
 use Rattle.spline.specs.Kernel.{weightIn, mostD, Kernel}
 use Rattle.particle.specs.declared.Particle.{Particle}
 use Rattle.apic.specs.Step.{Axis, alongX, alongY, nodeMass, nodeMomentum, grid, node}
@@ -120,7 +121,7 @@ module _ {table : List (List ℕ)} {D : ℕ} (kernel : Kernel table D) (nx ny : 
           (λ i j in-x in-y. bound-widen (momentum-share D (totalMass ps) (kernel .spread .most)) (kernel-momentum kernel nx ny ps limits i j in-x in-y a))
 
 -- the grids are light enough for another particle
-pub held-before : {m size : ℕ} {mass : List ℕ} {px py : List ℤ} → m ≤ 131072 → Held (m * mostShare) size mass px py → Held mostBefore size mass px py
+pub held-before : {m size : ℕ} {mass : List ℕ} {px py : List ℤ} → m ≤ mostTotalMass → Held (m * mostShare) size mass px py → Held mostBefore size mass px py
 held-before h held = held-widen (le-trans (mul-le-mul-right mostShare h) (lit≤ tt)) held
 
 -- ---- the loop over a set
@@ -151,7 +152,7 @@ module _ {nx ny : ℕ} {l : List ℤ} {table : List (List ℕ)} {D : ℕ} {mass 
         here : List Particle
         here = ready .set .particles
 
-        light : (m a b : ℕ) → a ≤ b → m + b ≤ 131072 → m + a ≤ 131072
+        light : (m a b : ℕ) → a ≤ b → m + b ≤ mostTotalMass → m + a ≤ mostTotalMass
         light m a b h k = omega arith
 
     pub nth-ready : k < length l / perParticle → NthReady nx ny l k table D mass′ px′ py′

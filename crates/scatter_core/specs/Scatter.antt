@@ -5,6 +5,7 @@ use mathlib.Core.List.{List, [], _∷_}
 use Prim.Native.Nat.{ℕ, _+_, _*_, _/_, _^_, _≤_, _<_}
 use lib.ListN.{length}
 use lib.IntN.{ℤ, natAbs}
+use Rattle.limits.specs.Limits.{mostTotalMass}
 use Rattle.spline.specs.Kernel.{weightIn, Kernel}
 use Rattle.particle.specs.declared.Particle.{Particle}
 use Rattle.apic.specs.Step.{alongX, alongY, nodeMass, nodeMomentum, grid}
@@ -27,7 +28,7 @@ mostShare = 2 ^ 26 * mostRate
 
 -- the grids hold what so much mass may have brought; with the set's it is at most the total mass of a set
 pub record Room (already nx ny : ℕ) (ps : List Particle) (mass : List ℕ) (px py : List ℤ) : Type 0 where
-  pub light : already + totalMass ps ≤ 131072
+  pub light : already + totalMass ps ≤ mostTotalMass
   pub held : Held (already * mostShare) (nx * ny) mass px py
 
 pub record SetReady (nx ny : ℕ) (particles : List ℤ) (table : List (List ℕ)) (D : ℕ) (mass : List ℕ) (px py : List ℤ) : Type 0 where

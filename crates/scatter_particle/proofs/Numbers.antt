@@ -13,6 +13,7 @@ use mir.Val.{SFits, toZ, ofZ}
 use Rattle.arith.specs.Order.{linear, reading}
 use Rattle.arith.specs.Size.{Bound, sizes, fits, size-given, bound-equal, within-bound}
 use Rattle.arith.specs.Machine.{read, read-natural, fits₂, result₂}
+use Rattle.limits.specs.Limits.{mostVelocity, mostAffine}
 use Rattle.spline.specs.Spline.{nearestNode, displacement}
 use Rattle.spline.specs.Kernel.{mostD}
 use Rattle.scatter_particle.specs.Added.{Middle, SpeedLimits}
@@ -66,7 +67,7 @@ record SpeedFits (D : ℕ) (v bx by dx dy : ℤ) : Type 0 where
   four : SFits w64 (by *ℤ dy)
   five : SFits w64 (pos D *ℤ v +ℤ bx *ℤ dx +ℤ by *ℤ dy)
 
-speed-fits : (D : ℕ) (v bx by dx dy : ℤ) → D ≤ mostD → Bound v 63 → Bound bx 2047 → Bound by 2047 → Bound dx 32 → Bound dy 32 → SpeedFits D v bx by dx dy
+speed-fits : (D : ℕ) (v bx by dx dy : ℤ) → D ≤ mostD → Bound v mostVelocity → Bound bx mostAffine → Bound by mostAffine → Bound dx 32 → Bound dy 32 → SpeedFits D v bx by dx dy
 speed-fits D v bx by dx dy h p q r s t =
     record {
       one = fits (search sizes depth 20) tt;
@@ -100,7 +101,7 @@ speed-facts {D} {v} {bx} {by} {dx} {dy} l =
 
 -- ---- what an entry of B adds
 
-module _ {b : ℤ} (h : Bound b 2047) where
+module _ {b : ℤ} (h : Bound b mostAffine) where
   spread-clean : SFits w64 (pos 64 *ℤ b)
   spread-clean = fits (search sizes depth 20) tt
 

@@ -17,6 +17,7 @@ use mir.Val.{toZ, ofZ}
 use mir.Facts.{and-yes}
 use Rattle.arith.specs.Size.{Bound, sizes, bounded, bound-equal}
 use Rattle.arith.specs.Machine.{read, read-bound}
+use Rattle.limits.specs.Limits.{mostSide, mostPosition, mostAffine, mostVelocity}
 use Rattle.spline.specs.Spline.{onAxis, nearestNode, displacement}
 use Rattle.spline.specs.Kernel.{weightsAt, weightIn, mostD, WeightsMost}
 use Rattle.spline.specs.declared.AxisWeights.{AxisWeights}
@@ -32,7 +33,7 @@ use Rattle.scatter_particle.proofs.Shares.{momentum-shares, mass-shares
 
 -- ---- the cell
 
-pub axis-small : (n x : ℕ) → n ≤ 48 → T (onAxis n x) → x ≤ 4095
+pub axis-small : (n x : ℕ) → n ≤ mostSide → T (onAxis n x) → x ≤ mostPosition
 unfolding onAxis
 axis-small n x s t =
     let h = leb→le x (64 * (n - 1) - 33) (and-yes (leb 32 x) (leb x (64 * (n - 1) - 33)) t .1) in
@@ -60,16 +61,16 @@ module _ {nx ny x y : ℕ} (sizes-are : SizeLimits nx ny) (x-on : Touched nx x) 
 
 -- a particle's numbers along one axis
 record AlongLimits (a : Axis) (p : Particle) : Type 0 where
-  v-most : Bound (velocity a p) 63
-  bx-most : Bound (affine a alongX p) 2047
-  by-most : Bound (affine a alongY p) 2047
+  v-most : Bound (velocity a p) mostVelocity
+  bx-most : Bound (affine a alongX p) mostAffine
+  by-most : Bound (affine a alongY p) mostAffine
 
 along-limits : {nx ny : ℕ} (a : Axis) (p : Particle) → ParticleLimits nx ny p → AlongLimits a p
 along-limits alongX p l = record { v-most = record { size = l .vx }; bx-most = record { size = l .bxx }; by-most = record { size = l .bxy } }
 along-limits alongY p l = record { v-most = record { size = l .vy }; bx-most = record { size = l .byx }; by-most = record { size = l .byy } }
 
-module _ {D : ℕ} (D-most : D ≤ mostD) {v bx by dx dy : ℤ} {x y : ℕ} (v-most : Bound v 63) (bx-most : Bound bx 2047) (by-most : Bound by 2047) (x-middle : Middle x dx) (y-middle : Middle y dy) {s : ℤ} (is : s ≡ pos D *ℤ toZ w64 (ofZ w64 v) +ℤ toZ w64 (ofZ w64 bx) *ℤ toZ w64 (ofZ w64 dx) +ℤ toZ w64 (ofZ w64 by) *ℤ toZ w64 (ofZ w64 dy)) where
-  rate-most : (D : ℕ) (v bx by dx dy : ℤ) → D ≤ mostD → Bound v 63 → Bound bx 2047 → Bound by 2047 → Bound dx 32 → Bound dy 32 → Bound (pos D *ℤ v +ℤ bx *ℤ dx +ℤ by *ℤ dy) mostMiddle
+module _ {D : ℕ} (D-most : D ≤ mostD) {v bx by dx dy : ℤ} {x y : ℕ} (v-most : Bound v mostVelocity) (bx-most : Bound bx mostAffine) (by-most : Bound by mostAffine) (x-middle : Middle x dx) (y-middle : Middle y dy) {s : ℤ} (is : s ≡ pos D *ℤ toZ w64 (ofZ w64 v) +ℤ toZ w64 (ofZ w64 bx) *ℤ toZ w64 (ofZ w64 dx) +ℤ toZ w64 (ofZ w64 by) *ℤ toZ w64 (ofZ w64 dy)) where
+  rate-most : (D : ℕ) (v bx by dx dy : ℤ) → D ≤ mostD → Bound v mostVelocity → Bound bx mostAffine → Bound by mostAffine → Bound dx 32 → Bound dy 32 → Bound (pos D *ℤ v +ℤ bx *ℤ dx +ℤ by *ℤ dy) mostMiddle
   rate-most D v bx by dx dy h p q r s t = bounded (search sizes depth 20) tt
 
   rate-is : s ≡ pos D *ℤ v +ℤ bx *ℤ dx +ℤ by *ℤ dy
@@ -88,7 +89,7 @@ module _ {D : ℕ} (D-most : D ≤ mostD) {v bx by dx dy : ℤ} {x y : ℕ} (v-m
   pub speed-is : toZ w64 (ofZ w64 s) ≡ pos D *ℤ v +ℤ bx *ℤ displacement x (nearestNode x) +ℤ by *ℤ displacement y (nearestNode y)
   speed-is = read w64 s-most tt ∙ rate-is ∙ (λ t. pos D *ℤ v +ℤ bx *ℤ x-middle .is t +ℤ by *ℤ y-middle .is t)
 
-module _ {b : ℤ} (b-most : Bound b 2047) {r : ℤ} (is : r ≡ pos 64 *ℤ toZ w64 (ofZ w64 b)) where
+module _ {b : ℤ} (b-most : Bound b mostAffine) {r : ℤ} (is : r ≡ pos 64 *ℤ toZ w64 (ofZ w64 b)) where
   clean : r ≡ pos 64 *ℤ b
   clean = is ∙ (λ t. pos 64 *ℤ read w64 b-most tt t)
 

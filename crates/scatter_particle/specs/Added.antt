@@ -6,6 +6,7 @@ use mathlib.Core.List.{List}
 use Prim.Native.Nat.{ℕ, _*_, _≤_}
 use lib.IntN.{ℤ}
 use Rattle.arith.specs.Size.{Bound}
+use Rattle.limits.specs.Limits.{mostVelocity, mostAffine}
 use Rattle.spline.specs.Spline.{displacement, nearestNode}
 use Rattle.spline.specs.Kernel.{mostD, Kernel}
 use Rattle.particle.specs.declared.Particle.{Particle}
@@ -51,8 +52,8 @@ pub record Middle (x : ℕ) (d : ℤ) : Type 0 where
 
 pub record SpeedLimits (D : ℕ) (v bx by dx dy : ℤ) : Type 0 where
   pub D-most : D ≤ mostD
-  pub v-most : Bound v 63
-  pub bx-most : Bound bx 2047
-  pub by-most : Bound by 2047
+  pub v-most : Bound v mostVelocity
+  pub bx-most : Bound bx mostAffine
+  pub by-most : Bound by mostAffine
   pub dx-most : Bound dx 32
   pub dy-most : Bound dy 32

@@ -4,12 +4,13 @@ ghost use mathlib.Core.List.{[], _∷_};
 ghost use Prim.Native.Nat.{_≤_};
 ghost use lib.IntN.{pos, _+ℤ_, _*ℤ_};
 ghost use Rattle.arith.specs.Size.{Bound};
+ghost use Rattle.limits.specs.Limits.{mostPosition, mostAffine};
 ghost use Rattle.spline.specs.Kernel.{weightIn};
 ghost use Rattle.scatter_particle.specs.Added.{Added, ParticleReady, unidentified, Middle, SpeedLimits};
 
 // The nearest node minus particle, along one axis.
 fn middle(x: usize) -> i64
-    requires { ⌜ x ≤ 4095 ⌝ }
+    requires { ⌜ x ≤ mostPosition ⌝ }
     ensures { λ r. ⌜ Middle x r ⌝ }
 {
     32 - (((x + 32) % 64) as i64)
@@ -25,7 +26,7 @@ fn speed(d: u64, v: i64, bx: i64, by: i64, dx: i64, dy: i64) -> i64
 
 // What an entry of B adds from a node to its neighbour.
 fn spread(b: i64) -> i64
-    requires { ⌜ Bound b 2047 ⌝ }
+    requires { ⌜ Bound b mostAffine ⌝ }
     ensures { λ r. ⌜ r ≡ pos 64 *ℤ b ⌝ }
 {
     64 * b

@@ -14,17 +14,18 @@ use mathlib.Core.List.{List, [], _∷_, _++_}
 use Prim.Native.Nat.{ℕ, zero, suc, _+_}
 use lib.ListN.{length, replicate, length-append, length-replicate}
 use Rattle.refusal.specs.Refused.{Answer, result, refused, either}
+use Rattle.spline.specs.Spline.{axisWeight, D}
 use Rattle.particle.specs.declared.Particle.{Particle}
 use Rattle.apic.specs.Limits.{SetLimits}
 use Rattle.particles.specs.Set.{recordsOf, particlesIn}
 use Rattle.particles.proofs.Accepted.{accepted-limits}
-use Rattle.packing.proofs.Sets.{particlesIn-accepted}
+use Rattle.unpacking.proofs.Sets.{particlesIn-accepted}
 use Rattle.entry.specs.Entry.{entryAnswer}
 use Rattle.entry.proofs.Entry.{accepted}
 use Rattle.settings.specs.declared.Settings.{Settings}
 use Rattle.apic.specs.Step.{Grids}
 use Rattle.simulation.specs.Step.{After, buffersOf, stepped, stepOf, nodesOf, stepEntry, stepFrom, stepAfter}
-use Rattle.simulation.specs.Run.{Completion, runFrom, runEntry, runAfter}
+use Rattle.simulation.specs.Run.{Completion, runFrom, runBy, runEntry, runAfter}
 use Rattle.simulation.specs.Demand3.{Accepted, Call, step, run, settingsOf, leaves, completes, leavesAll, completesAll, settingsAll, arrives}
 use Rattle.simulation.proofs.Records.{records-particles, records-accepted}
 use Rattle.simulation.proofs.Steps.{step-result, completed, limits-after}
@@ -75,9 +76,9 @@ module _ (s : Settings) (records : List ℕ) where
 pub step-works : {s : Settings} {records : List ℕ} {ps qs : List Particle} → Ready s records ps → stepOf s ps ≡ result qs → Works (s ∷ []) records (recordsOf qs) × Ready s (recordsOf qs) qs
 unfolding arrives
 step-works {s} {records} {ps} {qs} ready e =
-    let h = completed s ps (ready .limits) e in
-    let same = step-result s ps e .1 in
-    let limits : SetLimits (s .nx) (s .ny) qs = subst (SetLimits (s .nx) (s .ny)) same (limits-after s ps h) in (
+    let h = completed axisWeight D s ps (ready .limits) e in
+    let same = step-result axisWeight D s ps e .1 in
+    let limits : SetLimits (s .nx) (s .ny) qs = subst (SetLimits (s .nx) (s .ny)) same (limits-after axisWeight D s ps h) in (
       record {
         chain = subst (Chain (s ∷ [])) (sym (ready .holds)) (h, tt);
         last = records-particles limits ∙ sym same ∙ ap (stepped s) (sym (ready .holds));
@@ -92,7 +93,7 @@ abbrev RunWorks : Settings → List ℕ → After Completion → Type 0
 RunWorks s records r = Works (replicate (r .answer .completed) s) records (r .records)
 
 pub run-works : (s : Settings) (n : ℕ) (records : List ℕ) (ps : List Particle) (grids : Grids) → Accepted records → Ready s records ps → RunWorks s records (runFrom s n records ps grids)
-unfolding runFrom
+unfolding runBy
 run-works s zero records ps grids h ready = works-none h
 run-works s (suc n) records ps grids h ready =
     go (λ qs. run-works s n (recordsOf qs) qs (nodesOf s ps)) (stepOf s ps) refl

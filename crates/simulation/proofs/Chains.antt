@@ -15,8 +15,10 @@ use lib.IntN.{ℤ, pos, _+ℤ_, _-ℤ_, _*ℤ_}
 use Rattle.arith.specs.Order.{Within, linear, reading, _&_, nothing}
 use Rattle.arith.specs.Sums.{Each, sumOver}
 use Rattle.refusal.specs.Refused.{result}
+use Rattle.spline.specs.Spline.{axisWeight, D}
 use Rattle.particle.specs.declared.Particle.{Particle}
 use Rattle.apic.specs.Totals.{totalMass, momentum, angularMomentum, torque, firstMoment}
+use Rattle.apic.proofs.Spline.{spline-lawful}
 use Rattle.settings.specs.declared.Settings.{Settings}
 use Rattle.simulation.specs.Step.{gravity, stepped, stepOf}
 use Rattle.simulation.specs.Demand3.{worked, arrives, shareOf, torqueOf, momentOf, Keeps}
@@ -24,7 +26,7 @@ use Rattle.simulation.proofs.Steps.{Completed, kept-identifiers, kept-m
 
 abbrev pub Chain : List Settings → List Particle → Type 0
 Chain [] ps = Unit {0}
-Chain (s ∷ ss) ps = Completed s ps × Chain ss (stepped s ps)
+Chain (s ∷ ss) ps = Completed axisWeight D s ps × Chain ss (stepped s ps)
 
 pub chain-append : (ss ts : List Settings) (ps : List Particle) → Chain ss ps → Chain ts (arrives ss ps) → Chain (ss ++ ts) ps
 unfolding arrives
@@ -71,20 +73,20 @@ chain-keeps (s ∷ ss) ps h =
     let m : ℤ = pos (totalMass ps) in
     let steps = worked ss (stepped s ps) in
     record {
-      identifiers = k .identifiers ∙ kept-identifiers s ps;
-      masses = k .masses ∙ kept-masses s ps;
+      identifiers = k .identifiers ∙ kept-identifiers axisWeight D s ps;
+      masses = k .masses ∙ kept-masses axisWeight D s ps;
       linear = λ a.
           added (pos (suc n) *ℤ (pos 257 *ℤ m)) (pos 257 *ℤ m) (pos n *ℤ (pos 257 *ℤ m))
           (momentum a ps) (momentum a (stepped s ps)) (momentum a (arrives ss (stepped s ps)))
           (m *ℤ gravity s a) (sumOver steps (shareOf a))
-          (linear-more n m) (step-linear s ps (h .0) a)
-          (subst (λ t. Within (pos n *ℤ (pos 257 *ℤ pos t)) (pos 512 *ℤ (momentum a (arrives ss (stepped s ps)) -ℤ momentum a (stepped s ps)) -ℤ pos 2 *ℤ sumOver steps (shareOf a))) (kept-mass s ps) (k .linear a));
+          (linear-more n m) (step-linear axisWeight D s ps (h .0) spline-lawful a)
+          (subst (λ t. Within (pos n *ℤ (pos 257 *ℤ pos t)) (pos 512 *ℤ (momentum a (arrives ss (stepped s ps)) -ℤ momentum a (stepped s ps)) -ℤ pos 2 *ℤ sumOver steps (shareOf a))) (kept-mass axisWeight D s ps) (k .linear a));
       angular =
           added (pos (suc n) *ℤ (pos 512 *ℤ m) +ℤ pos 257 *ℤ (firstMoment ps +ℤ sumOver steps momentOf)) (pos 512 *ℤ m +ℤ pos 257 *ℤ firstMoment ps) (pos n *ℤ (pos 512 *ℤ m) +ℤ pos 257 *ℤ sumOver steps momentOf)
           (angularMomentum ps) (angularMomentum (stepped s ps)) (angularMomentum (arrives ss (stepped s ps)))
           (torque (s .gx) (s .gy) ps) (sumOver steps torqueOf)
-          (angular-more n m (firstMoment ps) (sumOver steps momentOf)) (step-angular s ps (h .0))
-          (subst (λ t. Within (pos n *ℤ (pos 512 *ℤ pos t) +ℤ pos 257 *ℤ sumOver steps momentOf) (pos 512 *ℤ (angularMomentum (arrives ss (stepped s ps)) -ℤ angularMomentum (stepped s ps)) -ℤ pos 2 *ℤ sumOver steps torqueOf)) (kept-mass s ps) (k .angular));
+          (angular-more n m (firstMoment ps) (sumOver steps momentOf)) (step-angular axisWeight D s ps (h .0) spline-lawful)
+          (subst (λ t. Within (pos n *ℤ (pos 512 *ℤ pos t) +ℤ pos 257 *ℤ sumOver steps momentOf) (pos 512 *ℤ (angularMomentum (arrives ss (stepped s ps)) -ℤ angularMomentum (stepped s ps)) -ℤ pos 2 *ℤ sumOver steps torqueOf)) (kept-mass axisWeight D s ps) (k .angular));
     }
 
 -- ---- each step

@@ -16,13 +16,13 @@ use Rattle.particle.specs.declared.Particle.{Particle}
 use Rattle.particles.specs.declared.Checked.{Checked}
 use Rattle.particles.specs.declared.Checked.the-variants as checked
 use Rattle.particles.specs.Set.{recordsOf, particlesIn, toldChecked}
-use Rattle.packing.proofs.Sets.{set-length}
+use Rattle.unpacking.proofs.Sets.{set-length}
 use Rattle.settings.specs.declared.Settings.{Settings}
 use Rattle.entry.specs.Entry.{entryAnswer, beginAnswer}
 use Rattle.entry.proofs.Entry.{kept-refusal, accepted, long-three}
 use Rattle.apic.specs.Step.{Grids, gridsOf}
 use Rattle.simulation.specs.Step.{After, Sees, seen, buffersOf, nodesOf, stepOf, stepEntry, stepFrom, stepAfter}
-use Rattle.simulation.specs.Run.{Completion, afterOne, runFrom, runEntry, runAfter}
+use Rattle.simulation.specs.Run.{Completion, afterOne, runFrom, runBy, runEntry, runAfter}
 use Rattle.simulation.specs.Internal.{RunReady}
 use Rattle.simulation.proofs.Calls.{ready-run}
 
@@ -91,7 +91,7 @@ module _ (s : Settings) (records : List ℕ) (grids : Grids) where
   stopOf r = seen (r .answer .stop) (r .records) (r .grids)
 
   pub step-is-run : stepAfter s records grids ≡ stopOf (runAfter s 1 records grids)
-  unfolding stepAfter runAfter stepEntry runEntry entryAnswer beginAnswer stepFrom runFrom
+  unfolding stepAfter runAfter stepEntry runEntry entryAnswer beginAnswer stepFrom runBy
   step-is-run = go (stepEntry s records grids)
     where
       tried : (ps : List Particle) (a : Answer (List Particle)) → either a (λ qs. seen done (recordsOf qs) (nodesOf s ps)) (λ n k. seen (refused n k) records (nodesOf s ps)) ≡ stopOf (either a (λ qs. afterOne (runFrom s 0 (recordsOf qs) qs (nodesOf s ps))) (λ k p. seen (record { completed = 0; stop = refused k p }) records (nodesOf s ps)))

@@ -13,7 +13,6 @@ use lib.IntN.{ℤ, pos, natAbs}
 use Rattle.arith.specs.Lists.{getD-tabulated, map-each}
 use Rattle.arith.specs.Rounding.{rounded}
 use Rattle.arith.specs.Sums.{upTo, each-upTo}
-use Rattle.spline.specs.Spline.{axisWeight, D}
 use Rattle.particle.specs.declared.Particle.{Particle}
 use Rattle.apic.specs.Step.{Axis, alongX, alongY, grid, node, nodeMass, nodeMomentum}
 use Rattle.apic.proofs.Update.{updated}
@@ -21,32 +20,32 @@ use Rattle.apic.proofs.Fields.{Agree, node-grid, moved-fields}
 use Rattle.apic.proofs.Conservation as apic
 use Rattle.update.specs.Update.{velocityOf, velocities}
 use Rattle.settings.specs.declared.Settings.{Settings}
-use Rattle.simulation.specs.Step.{gravity, masses, momenta, updatedVelocities, stepped}
+use Rattle.simulation.specs.Step.{gravity, massesBy, momentaBy, velocitiesBy, steppedBy}
 
--- the field of the update, with the engine's rounding, weights and D
-abbrev pub updatedField : Settings → Axis → List Particle → ℕ → ℕ → ℤ
-updatedField s a ps = updated rounded axisWeight D (gravity s a) a ps
+-- the field of the update, with the engine's rounding
+abbrev pub updatedField : (ℕ → ℕ → ℤ) → ℕ → Settings → Axis → List Particle → ℕ → ℕ → ℤ
+updatedField w D s a ps = updated rounded w D (gravity s a) a ps
 
-module _ (s : Settings) (ps : List Particle) where
-  pub mass-at : (k : ℕ) → k < s .nx * s .ny → getD (masses s ps) k 0 ≡ natAbs (nodeMass axisWeight ps (k % s .nx) (k / s .nx))
-  unfolding masses
-  mass-at k h = getD-tabulated (λ k. natAbs (nodeMass axisWeight ps (k % s .nx) (k / s .nx))) (s .nx * s .ny) k 0 h
+module _ (w : ℕ → ℕ → ℤ) (D : ℕ) (s : Settings) (ps : List Particle) where
+  pub mass-at : (k : ℕ) → k < s .nx * s .ny → getD (massesBy w s ps) k 0 ≡ natAbs (nodeMass w ps (k % s .nx) (k / s .nx))
+  unfolding massesBy
+  mass-at k h = getD-tabulated (λ k. natAbs (nodeMass w ps (k % s .nx) (k / s .nx))) (s .nx * s .ny) k 0 h
 
-  pub momentum-at : (a : Axis) (k : ℕ) → k < s .nx * s .ny → getD (momenta s a ps) k (pos 0) ≡ nodeMomentum axisWeight D a ps (k % s .nx) (k / s .nx)
-  unfolding momenta
-  momentum-at a k h = getD-tabulated (λ k. nodeMomentum axisWeight D a ps (k % s .nx) (k / s .nx)) (s .nx * s .ny) k (pos 0) h
+  pub momentum-at : (a : Axis) (k : ℕ) → k < s .nx * s .ny → getD (momentaBy w D s a ps) k (pos 0) ≡ nodeMomentum w D a ps (k % s .nx) (k / s .nx)
+  unfolding momentaBy
+  momentum-at a k h = getD-tabulated (λ k. nodeMomentum w D a ps (k % s .nx) (k / s .nx)) (s .nx * s .ny) k (pos 0) h
 
-  pub velocity-grid : (a : Axis) → updatedVelocities s a ps ≡ grid (s .nx) (s .ny) (updatedField s a ps)
-  unfolding updatedVelocities velocities
+  pub velocity-grid : (a : Axis) → velocitiesBy w D s a ps ≡ grid (s .nx) (s .ny) (updatedField w D s a ps)
+  unfolding velocitiesBy velocities
   velocity-grid a =
       map-each _ _ (upTo (s .nx * s .ny))
-      (each-upTo _ (s .nx * s .ny) (λ k h. ap₂ (velocityOf (gravity s a)) (mass-at k h) (momentum-at a k h)))
+      (each-upTo _ (s .nx * s .ny) (λ k h. ap₂ (velocityOf D (gravity s a)) (mass-at k h) (momentum-at a k h)))
 
-  pub field : (a : Axis) → Agree (s .nx) (s .ny) (node (s .nx) (updatedVelocities s a ps)) (updatedField s a ps)
+  pub field : (a : Axis) → Agree (s .nx) (s .ny) (node (s .nx) (velocitiesBy w D s a ps)) (updatedField w D s a ps)
   field a i j in-x in-y =
-      ap (λ u. node (s .nx) u i j) (velocity-grid a) ∙ node-grid (s .nx) (s .ny) (updatedField s a ps) i j in-x in-y
+      ap (λ u. node (s .nx) u i j) (velocity-grid a) ∙ node-grid (s .nx) (s .ny) (updatedField w D s a ps) i j in-x in-y
 
-  pub stepped-is : stepped s ps ≡ apic.stepped rounded axisWeight D (s .nx) (s .ny) (s .gx) (s .gy) ps
-  unfolding stepped
+  pub stepped-is : steppedBy w D s ps ≡ apic.stepped rounded w D (s .nx) (s .ny) (s .gx) (s .gy) ps
+  unfolding steppedBy
   stepped-is =
-      moved-fields rounded axisWeight (s .nx) (s .ny) _ _ _ _ (field alongX) (field alongY) ps
+      moved-fields rounded w (s .nx) (s .ny) _ _ _ _ (field alongX) (field alongY) ps

@@ -14,7 +14,7 @@ use Rattle.apic.specs.Limits.{SetLimits}
 use Rattle.particles.specs.Set.{recordCount, setAnswer, recordsOf, particlesIn}
 use Rattle.particles.proofs.Checks.{counted, entered, length-limits}
 use Rattle.particles.proofs.Accepted.{limits-accepted}
-use Rattle.packing.proofs.Sets.{particlesIn-accepted}
+use Rattle.unpacking.proofs.Sets.{particlesIn-accepted}
 use Rattle.simulation.specs.Demand3.{Accepted}
 
 module _ {nx ny : ℕ} {ps : List Particle} (limits : SetLimits nx ny ps) where

@@ -9,11 +9,11 @@ use mathlib.Core.Path.{_≡_, refl, sym, ap, _∙_, subst}
 use mathlib.Core.Bool.{Bool, true, false, _||_}
 use mathlib.Core.List.{List, [], _∷_, map}
 use mathlib.Core.Logic.{_⊎_, inl, inr, ⊎-elim}
-use Prim.Native.Nat.{ℕ, zero, suc, _+_, _*_, _/_, _%_, _^_, _≤_, _<_}
+use Prim.Native.Nat.{ℕ, zero, suc, _+_, _*_, _/_, _%_, _≤_, _<_}
 use native.Mathlib.Nat.{mod-lt, div-lt-iff-lt-mul, mul-comm}
 use native.Mathlib.Omega.{arith}
 use lib.ListN.{length, getD, replicate}
-use lib.IntN.{pos, natAbs}
+use lib.IntN.{ℤ, pos, natAbs}
 use lib.Signed.{_≤ℤ_}
 use Rattle.arith.specs.Order.{nonneg-pos, pos-cancel}
 use Rattle.arith.specs.Size.{bound-within, within-bound}
@@ -21,6 +21,7 @@ use Rattle.arith.specs.Rounding.{rounded, rounded-error}
 use Rattle.arith.specs.Sums.{Each, upTo, each-upTo}
 use Rattle.refusal.specs.Refused.{Answer, result, refused, refuseIf, done}
 use Rattle.refusal.proofs.Answers.{not-refused}
+use Rattle.limits.specs.Limits.{mostVelocity, mostAffine, mostNodeMass, mostNodeVelocity, mostGravity}
 use Rattle.spline.specs.Spline.{axisWeight, D}
 use Rattle.particle.specs.declared.Particle.{Particle}
 use Rattle.particles.specs.Set.{recordsOf}
@@ -28,14 +29,15 @@ use Rattle.apic.specs.Step.{Axis, alongX, alongY, newCoordinate, nodeMass, Grid
 use Rattle.apic.specs.Limits.{SetLimits}
 use Rattle.apic.proofs.Bounds as bounds
 use Rattle.apic.proofs.Bounds.{limited-set, node-limits}
-use Rattle.apic.proofs.Spline.{spline-near, spline-placed, spline-updated}
+use Rattle.apic.proofs.Kernel.{Lawful, lawful-updated}
+use Rattle.apic.proofs.Spline.{spline-lawful}
 use Rattle.arith.specs.Lists.{length-tabulated}
-use Rattle.gather_core.specs.Gather.{beyond, offAxis, moveCheck, moveChecks, NodeVelocities}
+use Rattle.gathering.specs.Gather.{beyond, offAxis, moveCheck, moveChecks, NodeVelocities}
 use Rattle.update.specs.Update.{velocityOf, NodeLimits, GridLimits, updateAnswer}
 use Rattle.update.proofs.Answers.{update-accepts}
 use Rattle.settings.specs.declared.Settings.{Settings}
-use Rattle.simulation.specs.Step.{gravity, masses, momenta, updatedVelocities, move, stepped, stepOf, nodesOf}
-use Rattle.simulation.specs.Run.{Completion, runFrom}
+use Rattle.simulation.specs.Step.{gravity, massesBy, momentaBy, velocitiesBy, moveBy, steppedBy, stepBy, masses, momenta, stepped, stepOf, nodesOf}
+use Rattle.simulation.specs.Run.{Completion, runBy, runFrom}
 use Rattle.simulation.specs.Demand3.{arrives}
 use Rattle.simulation.proofs.Fields.{updatedField, mass-at, momentum-at, velocity-grid}
 use Rattle.simulation.proofs.Steps.{step-result}
@@ -51,34 +53,35 @@ inside k (suc n) ny h =
     let some : 0 < suc n = omega arith in
     (mod-lt k some, div-lt-iff-lt-mul some .1 (subst (λ m. k < m) (mul-comm (suc n) ny) h))
 
-module _ (s : Settings) (ps : List Particle) (limits : SetLimits (s .nx) (s .ny) ps) (light : (a : Axis) → natAbs (gravity s a) ≤ 4096) where
-  updated-most : (a : Axis) (i j : ℕ) → natAbs (updatedField s a ps i j) ≤ 131072
+module _ {w : ℕ → ℕ → ℤ} {D : ℕ} (law : Lawful w D) (s : Settings) (ps : List Particle) (limits : SetLimits (s .nx) (s .ny) ps) (light : (a : Axis) → natAbs (gravity s a) ≤ mostGravity) where
+  updated-most : (a : Axis) (i j : ℕ) → natAbs (updatedField w D s a ps i j) ≤ mostNodeVelocity
   updated-most a i j =
-      within-bound (spline-updated (s .nx) (s .ny) ps (limited-set limits) rounded rounded-error (gravity s a) (bound-within (record { size = light a })) a i j) .size
+      within-bound (lawful-updated law (s .nx) (s .ny) ps (limited-set limits) rounded rounded-error (gravity s a) (bound-within (record { size = light a })) a i j) .size
 
-  node-at : (k : ℕ) → k < s .nx * s .ny → bounds.NodeLimits axisWeight D ps (k % s .nx) (k / s .nx)
+  node-at : (k : ℕ) → k < s .nx * s .ny → bounds.NodeLimits w D ps (k % s .nx) (k / s .nx)
   node-at k h =
       let c = inside k (s .nx) (s .ny) h in
-      node-limits axisWeight spline-near D (s .nx) (s .ny) ps (spline-placed (s .nx) (s .ny) ps (limits .each)) (limited-set limits) (k % s .nx) (k / s .nx) (c .0) (c .1)
+      node-limits w (law .near) D (s .nx) (s .ny) ps (law .placed (s .nx) (s .ny) ps (limits .each)) (limited-set limits) (k % s .nx) (k / s .nx) (c .0) (c .1)
 
   module _ (k : ℕ) (h : k < s .nx * s .ny) where
-    mass-is : nodeMass axisWeight ps (k % s .nx) (k / s .nx) ≡ pos (getD (masses s ps) k 0)
-    mass-is = nonneg-pos (node-at k h .mass-least) ∙ ap pos (sym (mass-at s ps k h))
+    mass-is : nodeMass w ps (k % s .nx) (k / s .nx) ≡ pos (getD (massesBy w s ps) k 0)
+    mass-is = nonneg-pos (node-at k h .mass-least) ∙ ap pos (sym (mass-at w D s ps k h))
 
-    mass-most : getD (masses s ps) k 0 ≤ 2 ^ 43
-    mass-most = pos-cancel (subst (λ z. z ≤ℤ pos (2 ^ 43)) mass-is (node-at k h .mass-most))
+    mass-most : getD (massesBy w s ps) k 0 ≤ mostNodeMass
+    mass-most = pos-cancel (subst (λ z. z ≤ℤ pos mostNodeMass) mass-is (node-at k h .mass-most))
 
-    no-momentum : (a : Axis) → getD (masses s ps) k 0 ≡ 0 → getD (momenta s a ps) k (pos 0) ≡ pos 0
-    no-momentum a e = momentum-at s ps a k h ∙ node-at k h .no-momentum a (mass-is ∙ ap pos e)
+    no-momentum : (a : Axis) → getD (massesBy w s ps) k 0 ≡ 0 → getD (momentaBy w D s a ps) k (pos 0) ≡ pos 0
+    no-momentum a e = momentum-at w D s ps a k h ∙ node-at k h .no-momentum a (mass-is ∙ ap pos e)
 
-    velocity-most : (a : Axis) → natAbs (velocityOf (gravity s a) (getD (masses s ps) k 0) (getD (momenta s a ps) k (pos 0))) ≤ 131072
+    velocity-most : (a : Axis) → natAbs (velocityOf D (gravity s a) (getD (massesBy w s ps) k 0) (getD (momentaBy w D s a ps) k (pos 0))) ≤ mostNodeVelocity
     velocity-most a =
-        rw (mass-at s ps k h, momentum-at s ps a k h) (updated-most a (k % s .nx) (k / s .nx))
+        rw (mass-at w D s ps k h, momentum-at w D s ps a k h) (updated-most a (k % s .nx) (k / s .nx))
 
-  pub grid-limits : GridLimits (s .nx * s .ny) (s .gx) (s .gy) (masses s ps) (momenta s alongX ps) (momenta s alongY ps)
-  unfolding masses momenta
+  pub grid-limits : GridLimits D (s .nx * s .ny) (s .gx) (s .gy) (massesBy w s ps) (momentaBy w D s alongX ps) (momentaBy w D s alongY ps)
+  unfolding massesBy momentaBy
   grid-limits =
       record {
+        spread = law .spread;
         mass-length = length-tabulated _ (s .nx * s .ny);
         px-length = length-tabulated _ (s .nx * s .ny);
         py-length = length-tabulated _ (s .nx * s .ny);
@@ -94,12 +97,9 @@ module _ (s : Settings) (ps : List Particle) (limits : SetLimits (s .nx) (s .ny)
             };
       }
 
-  pub update-done : updateAnswer (s .nx) (s .ny) (s .gx) (s .gy) (masses s ps) (momenta s alongX ps) (momenta s alongY ps) ≡ done
-  update-done = update-accepts (s .nx) (s .ny) (s .gx) (s .gy) (masses s ps) (momenta s alongX ps) (momenta s alongY ps) (limits .sizes) grid-limits
-
-  pub velocity-limits : (a : Axis) → NodeVelocities (s .nx) (s .ny) (updatedVelocities s a ps)
+  pub velocity-limits : (a : Axis) → NodeVelocities (s .nx) (s .ny) (velocitiesBy w D s a ps)
   velocity-limits a =
-      subst (NodeVelocities (s .nx) (s .ny)) (sym (velocity-grid s ps a))
+      subst (NodeVelocities (s .nx) (s .ny)) (sym (velocity-grid w D s ps a))
       (record {
         count = length-tabulated _ (s .nx * s .ny);
         each = each-image _ _ (upTo (s .nx * s .ny)) (each-upTo _ (s .nx * s .ny) (λ k h. updated-most a (k % s .nx) (k / s .nx)));
@@ -108,6 +108,11 @@ module _ (s : Settings) (ps : List Particle) (limits : SetLimits (s .nx) (s .ny)
       each-image : {A B : Type 0} (P : B → Type 0) (f : A → B) (xs : List A) → Each (λ x. P (f x)) xs → Each P (map f xs)
       each-image P f [] e = tt
       each-image P f (x ∷ xs) e = (e .0, each-image P f xs (e .1))
+
+-- with the spline's weights
+pub update-done : (s : Settings) (ps : List Particle) → SetLimits (s .nx) (s .ny) ps → ((a : Axis) → natAbs (gravity s a) ≤ mostGravity) → updateAnswer (s .nx) (s .ny) (s .gx) (s .gy) (masses s ps) (momenta s alongX ps) (momenta s alongY ps) ≡ done
+update-done s ps limits light =
+    update-accepts (s .nx) (s .ny) (s .gx) (s .gy) (masses s ps) (momenta s alongX ps) (momenta s alongY ps) (limits .sizes) (grid-limits spline-lawful s ps limits light)
 
 -- ---- the step
 
@@ -128,8 +133,8 @@ move-refused nx ny p q j rest {n} {k} e =
     (λ e. ⊎-elim (λ h. inl (at (h .0) (h .1) (omega arith) (omega arith)))
     (λ e. ⊎-elim (λ h. inl (at (h .0) (h .1) (omega arith) (omega arith))) inr
     (refused-for (offAxis nx (newCoordinate alongX p (q .vx)) || offAxis ny (newCoordinate alongY p (q .vy))) 15 j rest e))
-    (refused-for ((beyond 2047 (q .bxx) || beyond 2047 (q .bxy)) || (beyond 2047 (q .byx) || beyond 2047 (q .byy))) 14 j _ e))
-    (refused-for (beyond 63 (q .vx) || beyond 63 (q .vy)) 13 j _ e)
+    (refused-for ((beyond mostAffine (q .bxx) || beyond mostAffine (q .bxy)) || (beyond mostAffine (q .byx) || beyond mostAffine (q .byy))) 14 j _ e))
+    (refused-for (beyond mostVelocity (q .vx) || beyond mostVelocity (q .vy)) 13 j _ e)
   where
     at : {m : ℕ} → n ≡ m → k ≡ j → 13 ≤ m → m ≤ 15 → (13 ≤ n) × (n ≤ 15) × (k ≡ j)
     at {m} e f l u = (omega arith, omega arith, f)
@@ -147,10 +152,10 @@ moves-refused nx ny move j (p ∷ ps) a {n} {k} e =
     later : MoveRefusal (suc j + length ps) n k → MoveRefusal (j + length (p ∷ ps)) n k
     later h = record { least = h .least; most = h .most; place = omega (arith, h .place) }
 
-pub step-refused : (s : Settings) (ps : List Particle) {n k : ℕ} → stepOf s ps ≡ refused n k → MoveRefusal (length ps) n k
-unfolding stepOf
-step-refused s ps {n} {k} e =
-    let h = moves-refused (s .nx) (s .ny) (move s ps) 0 ps (stepped s ps) e in
+pub step-refused : (w : ℕ → ℕ → ℤ) (D : ℕ) (s : Settings) (ps : List Particle) {n k : ℕ} → stepBy w D s ps ≡ refused n k → MoveRefusal (length ps) n k
+unfolding stepBy
+step-refused w D s ps {n} {k} e =
+    let h = moves-refused (s .nx) (s .ny) (moveBy w D s ps) 0 ps (steppedBy w D s ps) e in
     record { least = h .least; most = h .most; place = omega (arith, h .place) }
 
 -- ---- the run
@@ -173,7 +178,7 @@ one-more s n ps r (inr h) =
     inr (record { number = h .number; place = h .place; fewer = omega (arith, h .fewer); stopped = h .stopped; refuses = h .refuses })
 
 pub run-ends : (s : Settings) (n : ℕ) (records : List ℕ) (ps : List Particle) (grids : Grids) → Ends s n ps (runFrom s n records ps grids .answer)
-unfolding runFrom arrives
+unfolding runBy arrives
 run-ends s zero records ps grids = inl (refl, refl)
 run-ends s (suc n) records ps grids = go (λ qs. run-ends s n (recordsOf qs) qs (nodesOf s ps)) (stepOf s ps) refl
   where
@@ -181,5 +186,5 @@ run-ends s (suc n) records ps grids = go (λ qs. run-ends s n (recordsOf qs) qs 
     go further (result qs) e =
         rw e
         (one-more s n ps (runFrom s n (recordsOf qs) qs (nodesOf s ps) .answer)
-        (subst (λ l. Ends s n l (runFrom s n (recordsOf qs) qs (nodesOf s ps) .answer)) (sym (step-result s ps e .1)) (further qs)))
+        (subst (λ l. Ends s n l (runFrom s n (recordsOf qs) qs (nodesOf s ps) .answer)) (sym (step-result axisWeight D s ps e .1)) (further qs)))
     go further (refused k p) e = rw e (inr (record { number = k; place = p; fewer = omega arith; stopped = refl; refuses = e }))

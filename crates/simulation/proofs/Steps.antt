@@ -19,8 +19,6 @@ use Rattle.arith.specs.Rounding.{rounded, rounded-error}
 use Rattle.arith.specs.Sums.{Each, each-map}
 use Rattle.refusal.specs.Refused.{Answer, result, refused}
 use Rattle.refusal.proofs.Answers.{same-result, not-result}
-use Rattle.spline.specs.Spline.{axisWeight, D}
-use Rattle.spline.proofs.Table.{spline-spread}
 use Rattle.particle.specs.declared.Particle.{Particle}
 use Rattle.apic.specs.Step.{Axis, alongX, alongY, newCoordinate, moved, node}
 use Rattle.apic.specs.Totals.{totalMass, momentum, angularMomentum, torque, firstMoment}
@@ -28,36 +26,36 @@ use Rattle.apic.specs.Limits.{SetLimits}
 use Rattle.apic.proofs.Gather.{along, NewPlace, gather-identifiers, gather-masses, gather-mass}
 use Rattle.apic.proofs.Fields.{velocity-fields}
 use Rattle.apic.proofs.Bounds.{spread-whole}
-use Rattle.apic.proofs.Spline.{spline-placed}
+use Rattle.apic.proofs.Kernel.{Lawful}
 use Rattle.apic.proofs.Conservation as apic
-use Rattle.gather_core.specs.Gather.{moveChecks}
-use Rattle.gather_core.proofs.Checks.{follow, checks-follow, Passed, passed}
-use Rattle.gather_core.proofs.Kept.{set-kept}
+use Rattle.gathering.specs.Gather.{moveChecks}
+use Rattle.gathering.proofs.Checks.{follow, checks-follow, Passed, passed}
+use Rattle.gathering.proofs.Kept.{set-kept}
 use Rattle.settings.specs.declared.Settings.{Settings}
-use Rattle.simulation.specs.Step.{gravity, updatedVelocities, move, stepped, stepOf}
+use Rattle.simulation.specs.Step.{gravity, velocitiesBy, moveBy, steppedBy, stepBy}
 use Rattle.simulation.proofs.Fields.{updatedField, field, stepped-is}
 
 -- the checks of a step, apart from what it leads to
-abbrev pub checks : Settings → List Particle → Answer (Unit {0})
-checks s ps = moveChecks (s .nx) (s .ny) (move s ps) 0 ps (result tt)
+abbrev pub checks : (ℕ → ℕ → ℤ) → ℕ → Settings → List Particle → Answer (Unit {0})
+checks w D s ps = moveChecks (s .nx) (s .ny) (moveBy w D s ps) 0 ps (result tt)
 
-pub record Completed (s : Settings) (ps : List Particle) : Type 0 where
+pub record Completed (w : ℕ → ℕ → ℤ) (D : ℕ) (s : Settings) (ps : List Particle) : Type 0 where
   pub limits : SetLimits (s .nx) (s .ny) ps
-  pub checked : checks s ps ≡ result tt
-  pub unrefused : stepOf s ps ≡ result (stepped s ps)
+  pub checked : checks w D s ps ≡ result tt
+  pub unrefused : stepBy w D s ps ≡ result (steppedBy w D s ps)
 
 followed : {A : Type 0} (a : Answer (Unit {0})) (b c : A) → follow a (result b) ≡ result c → (a ≡ result tt) × (b ≡ c)
 followed (result u) b c e = (refl, same-result e)
 followed (refused n k) b c e = not-result e
 
-pub step-result : (s : Settings) (ps : List Particle) {qs : List Particle} → stepOf s ps ≡ result qs → (checks s ps ≡ result tt) × (stepped s ps ≡ qs)
-unfolding stepOf
-step-result s ps {qs} e =
-    followed (checks s ps) (stepped s ps) qs (sym (checks-follow (s .nx) (s .ny) (move s ps) 0 ps (result (stepped s ps))) ∙ e)
+pub step-result : (w : ℕ → ℕ → ℤ) (D : ℕ) (s : Settings) (ps : List Particle) {qs : List Particle} → stepBy w D s ps ≡ result qs → (checks w D s ps ≡ result tt) × (steppedBy w D s ps ≡ qs)
+unfolding stepBy
+step-result w D s ps {qs} e =
+    followed (checks w D s ps) (steppedBy w D s ps) qs (sym (checks-follow (s .nx) (s .ny) (moveBy w D s ps) 0 ps (result (steppedBy w D s ps))) ∙ e)
 
-pub completed : (s : Settings) (ps : List Particle) {qs : List Particle} → SetLimits (s .nx) (s .ny) ps → stepOf s ps ≡ result qs → Completed s ps
-completed s ps limits e =
-    let h = step-result s ps e in
+pub completed : (w : ℕ → ℕ → ℤ) (D : ℕ) (s : Settings) (ps : List Particle) {qs : List Particle} → SetLimits (s .nx) (s .ny) ps → stepBy w D s ps ≡ result qs → Completed w D s ps
+completed w D s ps limits e =
+    let h = step-result w D s ps e in
     record { limits = limits; checked = h .0; unrefused = e ∙ ap result (sym (h .1)) }
 
 all-passed : (nx ny : ℕ) (move : Particle → Particle) (k : ℕ) (ps : List Particle) → moveChecks nx ny move k ps (result (tt {0})) ≡ result tt → Each (λ p. Passed nx ny p (move p)) ps
@@ -69,53 +67,53 @@ all-passed nx ny move k (p ∷ ps) e =
 
 -- ---- what is kept
 
-module _ (s : Settings) (ps : List Particle) where
+module _ (w : ℕ → ℕ → ℤ) (D : ℕ) (s : Settings) (ps : List Particle) where
   abbrev ux : ℕ → ℕ → ℤ
-  ux = node (s .nx) (updatedVelocities s alongX ps)
+  ux = node (s .nx) (velocitiesBy w D s alongX ps)
 
   abbrev uy : ℕ → ℕ → ℤ
-  uy = node (s .nx) (updatedVelocities s alongY ps)
+  uy = node (s .nx) (velocitiesBy w D s alongY ps)
 
-  pub kept-identifiers : map (λ p. p .identifier) (stepped s ps) ≡ map (λ p. p .identifier) ps
-  unfolding stepped
-  kept-identifiers = gather-identifiers rounded axisWeight (s .nx) (s .ny) ux uy ps
+  pub kept-identifiers : map (λ p. p .identifier) (steppedBy w D s ps) ≡ map (λ p. p .identifier) ps
+  unfolding steppedBy
+  kept-identifiers = gather-identifiers rounded w (s .nx) (s .ny) ux uy ps
 
-  pub kept-masses : map (λ p. p .mass) (stepped s ps) ≡ map (λ p. p .mass) ps
-  unfolding stepped
-  kept-masses = gather-masses rounded axisWeight (s .nx) (s .ny) ux uy ps
+  pub kept-masses : map (λ p. p .mass) (steppedBy w D s ps) ≡ map (λ p. p .mass) ps
+  unfolding steppedBy
+  kept-masses = gather-masses rounded w (s .nx) (s .ny) ux uy ps
 
-  pub kept-mass : totalMass (stepped s ps) ≡ totalMass ps
-  unfolding stepped
-  kept-mass = gather-mass rounded axisWeight (s .nx) (s .ny) ux uy ps
+  pub kept-mass : totalMass (steppedBy w D s ps) ≡ totalMass ps
+  unfolding steppedBy
+  kept-mass = gather-mass rounded w (s .nx) (s .ny) ux uy ps
 
-  module _ (h : Completed s ps) where
-    pub limits-after : SetLimits (s .nx) (s .ny) (stepped s ps)
-    unfolding stepped
-    limits-after = set-kept axisWeight (s .nx) (s .ny) (updatedVelocities s alongX ps) (updatedVelocities s alongY ps) 0 ps (h .limits) (h .checked)
+  module _ (h : Completed w D s ps) where
+    pub limits-after : SetLimits (s .nx) (s .ny) (steppedBy w D s ps)
+    unfolding steppedBy
+    limits-after = set-kept w (s .nx) (s .ny) (velocitiesBy w D s alongX ps) (velocitiesBy w D s alongY ps) 0 ps (h .limits) (h .checked)
 
-    new-place : (p : Particle) → Passed (s .nx) (s .ny) p (move s ps p) → NewPlace rounded axisWeight (s .nx) (s .ny) (updatedField s alongX ps) (updatedField s alongY ps) p
+    new-place : (p : Particle) → Passed (s .nx) (s .ny) p (moveBy w D s ps p) → NewPlace rounded w (s .nx) (s .ny) (updatedField w D s alongX ps) (updatedField w D s alongY ps) p
     unfolding moved
     new-place p m =
         record {
-          new-x = subst (λ v. pos 0 ≤ℤ newCoordinate alongX p v) (velocity-fields rounded axisWeight (s .nx) (s .ny) ux (updatedField s alongX ps) (field s ps alongX) p) (nonneg (m .x .0));
-          new-y = subst (λ v. pos 0 ≤ℤ newCoordinate alongY p v) (velocity-fields rounded axisWeight (s .nx) (s .ny) uy (updatedField s alongY ps) (field s ps alongY) p) (nonneg (m .y .0));
+          new-x = subst (λ v. pos 0 ≤ℤ newCoordinate alongX p v) (velocity-fields rounded w (s .nx) (s .ny) ux (updatedField w D s alongX ps) (field w D s ps alongX) p) (nonneg (m .x .0));
+          new-y = subst (λ v. pos 0 ≤ℤ newCoordinate alongY p v) (velocity-fields rounded w (s .nx) (s .ny) uy (updatedField w D s alongY ps) (field w D s ps alongY) p) (nonneg (m .y .0));
         }
       where
         nonneg : {z : ℤ} → T (nonNeg z) → pos 0 ≤ℤ z
         nonneg {z} t = subst (λ y. pos 0 ≤ℤ y) (pos-natAbs z t) (pos-nonneg _)
 
-    pub step-linear : (a : Axis) → Within (pos 257 *ℤ pos (totalMass ps)) (pos 512 *ℤ (momentum a (stepped s ps) -ℤ momentum a ps) -ℤ pos 2 *ℤ (pos (totalMass ps) *ℤ gravity s a))
-    step-linear a =
-        subst (λ g. Within (pos 257 *ℤ pos (totalMass ps)) (pos 512 *ℤ (momentum a (stepped s ps) -ℤ momentum a ps) -ℤ pos 2 *ℤ (pos (totalMass ps) *ℤ g))) (same a)
-        (subst (λ qs. Within (pos 257 *ℤ pos (totalMass ps)) (pos 512 *ℤ (momentum a qs -ℤ momentum a ps) -ℤ pos 2 *ℤ (pos (totalMass ps) *ℤ along a (s .gx) (s .gy)))) (sym (stepped-is s ps))
-        (apic.step-linear rounded rounded-error axisWeight D (spread-whole spline-spread) (s .nx) (s .ny) ps (spline-placed (s .nx) (s .ny) ps (h .limits .each)) (s .gx) (s .gy) a))
+    pub step-linear : Lawful w D → (a : Axis) → Within (pos 257 *ℤ pos (totalMass ps)) (pos 512 *ℤ (momentum a (steppedBy w D s ps) -ℤ momentum a ps) -ℤ pos 2 *ℤ (pos (totalMass ps) *ℤ gravity s a))
+    step-linear law a =
+        subst (λ g. Within (pos 257 *ℤ pos (totalMass ps)) (pos 512 *ℤ (momentum a (steppedBy w D s ps) -ℤ momentum a ps) -ℤ pos 2 *ℤ (pos (totalMass ps) *ℤ g))) (same a)
+        (subst (λ qs. Within (pos 257 *ℤ pos (totalMass ps)) (pos 512 *ℤ (momentum a qs -ℤ momentum a ps) -ℤ pos 2 *ℤ (pos (totalMass ps) *ℤ along a (s .gx) (s .gy)))) (sym (stepped-is w D s ps))
+        (apic.step-linear rounded rounded-error w D (spread-whole (law .spread)) (s .nx) (s .ny) ps (law .placed (s .nx) (s .ny) ps (h .limits .each)) (s .gx) (s .gy) a))
       where
         same : (a : Axis) → along a (s .gx) (s .gy) ≡ gravity s a
         same alongX = refl
         same alongY = refl
 
-    pub step-angular : Within (pos 512 *ℤ pos (totalMass ps) +ℤ pos 257 *ℤ firstMoment ps) (pos 512 *ℤ (angularMomentum (stepped s ps) -ℤ angularMomentum ps) -ℤ pos 2 *ℤ torque (s .gx) (s .gy) ps)
-    step-angular =
-        subst (λ qs. Within (pos 512 *ℤ pos (totalMass ps) +ℤ pos 257 *ℤ firstMoment ps) (pos 512 *ℤ (angularMomentum qs -ℤ angularMomentum ps) -ℤ pos 2 *ℤ torque (s .gx) (s .gy) ps)) (sym (stepped-is s ps))
-        (apic.step-angular rounded rounded-error axisWeight D (spread-whole spline-spread) (s .nx) (s .ny) ps (spline-placed (s .nx) (s .ny) ps (h .limits .each)) (s .gx) (s .gy)
-        (each-map _ _ new-place ps (all-passed (s .nx) (s .ny) (move s ps) 0 ps (h .checked))))
+    pub step-angular : Lawful w D → Within (pos 512 *ℤ pos (totalMass ps) +ℤ pos 257 *ℤ firstMoment ps) (pos 512 *ℤ (angularMomentum (steppedBy w D s ps) -ℤ angularMomentum ps) -ℤ pos 2 *ℤ torque (s .gx) (s .gy) ps)
+    step-angular law =
+        subst (λ qs. Within (pos 512 *ℤ pos (totalMass ps) +ℤ pos 257 *ℤ firstMoment ps) (pos 512 *ℤ (angularMomentum qs -ℤ angularMomentum ps) -ℤ pos 2 *ℤ torque (s .gx) (s .gy) ps)) (sym (stepped-is w D s ps))
+        (apic.step-angular rounded rounded-error w D (spread-whole (law .spread)) (s .nx) (s .ny) ps (law .placed (s .nx) (s .ny) ps (h .limits .each)) (s .gx) (s .gy)
+        (each-map _ _ new-place ps (all-passed (s .nx) (s .ny) (moveBy w D s ps) 0 ps (h .checked))))

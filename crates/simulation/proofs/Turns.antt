@@ -19,7 +19,7 @@ use Rattle.particle.specs.declared.Particle.{Particle}
 use Rattle.particles.specs.Set.{recordsOf}
 use Rattle.unpacked.specs.Unpacked.{perParticle}
 use Rattle.packing.specs.Packing.{Packable, Packs}
-use Rattle.gather_core.specs.declared.Gathered.{Gathered}
+use Rattle.gathering.specs.declared.Gathered.{Gathered}
 use Rattle.settings.specs.declared.Settings.{Settings}
 use Rattle.simulation.specs.Internal.{StepReady, Steps, Turns, Settles, current, other, recordsAfter}
 
@@ -63,18 +63,18 @@ module _ (k : ℕ) (a b : List ℤ) {s : Settings} {mass : List ℕ} {px py : Li
   pub odd-ready : {weights : List (List ℕ)} {d : ℕ} → (k % 2 ≡ 0 → ⊥) → StepReady s (current k a b) weights d mass px py (other k a b) → StepReady s b weights d mass px py a
   odd-ready {weights} {d} e h = subst₂ (λ p q. StepReady s p weights d mass px py q) (odd k a b e) (odd k b a e) h
 
-  pub even-turned : {r : Gathered} {b′ : List ℤ} → k % 2 ≡ 0 → Steps s a r mass px py b′ → Turns s k a b r mass px py a b′
-  even-turned {r} {b′} e h =
+  pub even-turned : {w : ℕ → ℕ → ℤ} {D : ℕ} {r : Gathered} {b′ : List ℤ} → k % 2 ≡ 0 → Steps w D s a r mass px py b′ → Turns w D s k a b r mass px py a b′
+  even-turned {w} {D} {r} {b′} e h =
       record {
         kept = even k a b′ e ∙ sym (even k a b e);
-        step = subst₂ (λ p q. Steps s p r mass px py q) (sym (even k a b e)) (sym (even k b′ a e)) h;
+        step = subst₂ (λ p q. Steps w D s p r mass px py q) (sym (even k a b e)) (sym (even k b′ a e)) h;
       }
 
-  pub odd-turned : {r : Gathered} {a′ : List ℤ} → (k % 2 ≡ 0 → ⊥) → Steps s b r mass px py a′ → Turns s k a b r mass px py a′ b
-  odd-turned {r} {a′} e h =
+  pub odd-turned : {w : ℕ → ℕ → ℤ} {D : ℕ} {r : Gathered} {a′ : List ℤ} → (k % 2 ≡ 0 → ⊥) → Steps w D s b r mass px py a′ → Turns w D s k a b r mass px py a′ b
+  odd-turned {w} {D} {r} {a′} e h =
       record {
         kept = odd k a′ b e ∙ sym (odd k a b e);
-        step = subst₂ (λ p q. Steps s p r mass px py q) (sym (odd k a b e)) (sym (odd k b a′ e)) h;
+        step = subst₂ (λ p q. Steps w D s p r mass px py q) (sym (odd k a b e)) (sym (odd k b a′ e)) h;
       }
 
 -- ---- the way home

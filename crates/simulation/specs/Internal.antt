@@ -8,26 +8,27 @@ use lib.Dec.{eqb}
 use lib.ListN.{length}
 use lib.IntN.{ℤ, natAbs}
 use Rattle.refusal.specs.Refused.{Answer, result, refusedBy}
-use Rattle.spline.specs.Kernel.{BuiltIn}
+use Rattle.limits.specs.Limits.{mostGravity}
+use Rattle.spline.specs.Kernel.{Kernel}
 use Rattle.particle.specs.declared.Particle.{Particle}
 use Rattle.particles.specs.Set.{setLength, recordsOf, particlesIn, setAnswer}
 use Rattle.unpacked.specs.Unpacked.{unpacked, Holds, UnpackedSet}
 use Rattle.packing.specs.Packing.{identifiers}
-use Rattle.gather_core.specs.declared.Gathered.{Gathered}
-use Rattle.gather_core.specs.declared.Gathered.the-variants.{Done, Refused}
+use Rattle.gathering.specs.declared.Gathered.{Gathered}
+use Rattle.gathering.specs.declared.Gathered.the-variants.{Done, Refused}
 use Rattle.settings.specs.declared.Settings.{Settings}
 use Rattle.simulation.specs.declared.Ran.{Ran}
 use Rattle.apic.specs.Step.{Grids, gridsOf}
-use Rattle.simulation.specs.Step.{seen, nodesOf, stepped, stepOf}
-use Rattle.simulation.specs.Run.{toldRan, runFrom}
+use Rattle.simulation.specs.Step.{seen, nodesBy, steppedBy, stepBy}
+use Rattle.simulation.specs.Run.{toldRan, runBy, runFrom}
 
 -- ---- one step, from an array of particles to another
 
 pub record StepReady (s : Settings) (source : List ℤ) (weights : List (List ℕ)) (d : ℕ) (mass : List ℕ) (px py target : List ℤ) : Type 0 where
   pub set : UnpackedSet (s .nx) (s .ny) source
-  pub gravity-x : natAbs (s .gx) ≤ 4096
-  pub gravity-y : natAbs (s .gy) ≤ 4096
-  pub built-in : BuiltIn weights d
+  pub gravity-x : natAbs (s .gx) ≤ mostGravity
+  pub gravity-y : natAbs (s .gy) ≤ mostGravity
+  pub kernel : Kernel weights d
   pub mass-long : length mass ≡ s .nx * s .ny
   pub px-long : length px ≡ s .nx * s .ny
   pub py-long : length py ≡ s .nx * s .ny
@@ -38,15 +39,15 @@ abbrev pub toldGatheredTo : Gathered → List Particle → Answer (List Particle
 toldGatheredTo Done qs = result qs
 toldGatheredTo (Refused e) qs = refusedBy e
 
-pub record StepLeaves (s : Settings) (ps : List Particle) (r : Gathered) (mass : List ℕ) (px py target : List ℤ) : Type 0 where
-  pub grids : gridsOf mass px py ≡ nodesOf s ps
-  pub answer : toldGatheredTo r (stepped s ps) ≡ stepOf s ps
-  pub moved : r ≡ Done → target ≡ unpacked (stepped s ps)
+pub record StepLeaves (w : ℕ → ℕ → ℤ) (D : ℕ) (s : Settings) (ps : List Particle) (r : Gathered) (mass : List ℕ) (px py target : List ℤ) : Type 0 where
+  pub grids : gridsOf mass px py ≡ nodesBy w D s ps
+  pub answer : toldGatheredTo r (steppedBy w D s ps) ≡ stepBy w D s ps
+  pub moved : r ≡ Done → target ≡ unpacked (steppedBy w D s ps)
 
 -- whichever particles the source holds
-abbrev pub Steps : Settings → List ℤ → Gathered → List ℕ → List ℤ → List ℤ → List ℤ → Type 0
-Steps s source r mass px py target =
-    (ps : List Particle) → Holds (s .nx) (s .ny) source ps → StepLeaves s ps r mass px py target
+abbrev pub Steps : (ℕ → ℕ → ℤ) → ℕ → Settings → List ℤ → Gathered → List ℕ → List ℤ → List ℤ → List ℤ → Type 0
+Steps w D s source r mass px py target =
+    (ps : List Particle) → Holds (s .nx) (s .ny) source ps → StepLeaves w D s ps r mass px py target
 
 -- ---- a run, back and forth between two arrays
 
@@ -57,9 +58,9 @@ current steps a b = cond (eqb (steps % 2) 0) a b
 abbrev pub other : ℕ → List ℤ → List ℤ → List ℤ
 other steps a b = current steps b a
 
-pub record Turns (s : Settings) (steps : ℕ) (a b : List ℤ) (r : Gathered) (mass : List ℕ) (px py a′ b′ : List ℤ) : Type 0 where
+pub record Turns (w : ℕ → ℕ → ℤ) (D : ℕ) (s : Settings) (steps : ℕ) (a b : List ℤ) (r : Gathered) (mass : List ℕ) (px py a′ b′ : List ℤ) : Type 0 where
   pub kept : current steps a′ b′ ≡ current steps a b
-  pub step : Steps s (current steps a b) r mass px py (other steps a′ b′)
+  pub step : Steps w D s (current steps a b) r mass px py (other steps a′ b′)
 
 -- the records after so many steps that led to the particles qs: where there was none they are as they were
 abbrev pub recordsAfter : List ℕ → ℕ → List Particle → List ℕ
@@ -71,16 +72,16 @@ completedBy r = toldRan r .completed
 
 -- a run from the particles ps: those that the array holds after it, under their identifiers, and what a caller sees who gave
 -- any records
-pub record RepeatsFrom (s : Settings) (steps : ℕ) (ps : List Particle) (grids : Grids) (r : Ran) (mass : List ℕ) (px py a b : List ℤ) : Type 0 where
+pub record RepeatsFrom (w : ℕ → ℕ → ℤ) (D : ℕ) (s : Settings) (steps : ℕ) (ps : List Particle) (grids : Grids) (r : Ran) (mass : List ℕ) (px py a b : List ℤ) : Type 0 where
   pub particles : List Particle
   pub holds : Holds (s .nx) (s .ny) (current (completedBy r) a b) particles
   pub named : identifiers particles ≡ identifiers ps
-  pub is : (records : List ℕ) → seen (toldRan r) (recordsAfter records (completedBy r) particles) (gridsOf mass px py) ≡ runFrom s steps records ps grids
+  pub is : (records : List ℕ) → seen (toldRan r) (recordsAfter records (completedBy r) particles) (gridsOf mass px py) ≡ runBy w D s steps records ps grids
 
 -- whichever particles the source holds
-abbrev pub Repeats : Settings → ℕ → List ℤ → Grids → Ran → List ℕ → List ℤ → List ℤ → List ℤ → List ℤ → Type 0
-Repeats s steps source grids r mass px py a b =
-    (ps : List Particle) → Holds (s .nx) (s .ny) source ps → RepeatsFrom s steps ps grids r mass px py a b
+abbrev pub Repeats : (ℕ → ℕ → ℤ) → ℕ → Settings → ℕ → List ℤ → Grids → Ran → List ℕ → List ℤ → List ℤ → List ℤ → List ℤ → Type 0
+Repeats w D s steps source grids r mass px py a b =
+    (ps : List Particle) → Holds (s .nx) (s .ny) source ps → RepeatsFrom w D s steps ps grids r mass px py a b
 
 -- the records after so many steps that led to the particles of this array, whichever they are
 abbrev pub Settles : ℕ → List ℤ → List ℕ → List ℕ → Type 0
@@ -104,8 +105,8 @@ pub record RunReady (s : Settings) (records mass : List ℕ) (px py : List ℤ) 
   pub particles : List Particle
   pub set : setAnswer (s .nx) (s .ny) records ≡ result particles
   pub most : length records ≤ setLength
-  pub gravity-x : natAbs (s .gx) ≤ 4096
-  pub gravity-y : natAbs (s .gy) ≤ 4096
+  pub gravity-x : natAbs (s .gx) ≤ mostGravity
+  pub gravity-y : natAbs (s .gy) ≤ mostGravity
   pub mass-long : length mass ≡ s .nx * s .ny
   pub px-long : length px ≡ s .nx * s .ny
   pub py-long : length py ≡ s .nx * s .ny

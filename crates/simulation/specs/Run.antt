@@ -2,7 +2,9 @@
 -- call. Assumes nothing.
 use mathlib.Core.List.{List}
 use Prim.Native.Nat.{ℕ, zero, suc}
+use lib.IntN.{ℤ}
 use Rattle.refusal.specs.Refused.{Answer, refused, refusedBy, either, done}
+use Rattle.spline.specs.Spline.{axisWeight, D}
 use Rattle.entry.specs.Entry.{entryAnswer}
 use Rattle.particle.specs.declared.Particle.{Particle}
 use Rattle.particles.specs.Set.{recordsOf}
@@ -10,7 +12,7 @@ use Rattle.settings.specs.declared.Settings.{Settings}
 use Rattle.simulation.specs.declared.Ran.{Ran}
 use Rattle.simulation.specs.declared.Ran.the-variants.{Done, Stopped}
 use Rattle.apic.specs.Step.{Grids}
-use Rattle.simulation.specs.Step.{After, buffersOf, stepOf, nodesOf}
+use Rattle.simulation.specs.Step.{After, buffersOf, stepBy, nodesBy}
 
 -- "the number of completed steps, and the first refusal if one stopped it"; `done` where none did
 pub record Completion : Type 0 where
@@ -26,14 +28,18 @@ afterOne r =
       grids = r .grids;
     }
 
--- n steps from the particles ps of the records, or as many as come before the first that is refused: it leaves the records
--- of the last completed step and the grids of the last step tried
-unfoldable pub runFrom : Settings → ℕ → List ℕ → List Particle → Grids → After Completion
-runFrom s zero records ps grids = record { answer = record { completed = 0; stop = done }; records = records; grids = grids }
-runFrom s (suc n) records ps grids =
-    either (stepOf s ps)
-    (λ qs. afterOne (runFrom s n (recordsOf qs) qs (nodesOf s ps)))
-    (λ k p. record { answer = record { completed = 0; stop = refused k p }; records = records; grids = nodesOf s ps })
+-- n steps from the particles ps of the records, with axis weights w and their second moment d, or as many as come before the
+-- first that is refused: it leaves the records of the last completed step and the grids of the last step tried
+unfoldable pub runBy : (ℕ → ℕ → ℤ) → ℕ → Settings → ℕ → List ℕ → List Particle → Grids → After Completion
+runBy w d s zero records ps grids = record { answer = record { completed = 0; stop = done }; records = records; grids = grids }
+runBy w d s (suc n) records ps grids =
+    either (stepBy w d s ps)
+    (λ qs. afterOne (runBy w d s n (recordsOf qs) qs (nodesBy w d s ps)))
+    (λ k p. record { answer = record { completed = 0; stop = refused k p }; records = records; grids = nodesBy w d s ps })
+
+-- with the spline's
+abbrev pub runFrom : Settings → ℕ → List ℕ → List Particle → Grids → After Completion
+runFrom = runBy axisWeight D
 
 -- 2; 1, also for the grid buffers; 10; 17 steps above 10,000; the set
 unfoldable pub runEntry : Settings → ℕ → List ℕ → Grids → Answer (List Particle)

@@ -8,9 +8,9 @@ use lib.IntN.{ℤ, natAbs}
 use Rattle.refusal.specs.Refused.{Answer, result, refused, refusedBy, either, done}
 use Rattle.spline.specs.Spline.{axisWeight, D}
 use Rattle.particle.specs.declared.Particle.{Particle}
-use Rattle.apic.specs.Step.{Axis, alongX, alongY, Grids, gridsOf, grid, nodeMass, nodeMomentum}
+use Rattle.apic.specs.Step.{Axis, alongX, alongY, Grids, grid, nodeMass, nodeMomentum}
 use Rattle.particles.specs.Set.{recordsOf}
-use Rattle.gather_core.specs.Gather.{gathered, moveChecks}
+use Rattle.gathering.specs.Gather.{gathered, moveChecks}
 use Rattle.entry.specs.declared.Buffers.{Buffers}
 use Rattle.entry.specs.declared.Buffers.the-variants.{Three}
 use Rattle.entry.specs.Entry.{entryAnswer}
@@ -23,36 +23,56 @@ abbrev pub gravity : Settings → Axis → ℤ
 gravity s alongX = s .gx
 gravity s alongY = s .gy
 
--- ---- scatter, update, gather
+-- ---- scatter, update, gather, with axis weights w and their second moment d
 
 -- the node masses, and the node momenta on an axis, after the scatter
-unfoldable pub masses : Settings → List Particle → List ℕ
-masses s ps = grid (s .nx) (s .ny) (λ i j. natAbs (nodeMass axisWeight ps i j))
+unfoldable pub massesBy : (ℕ → ℕ → ℤ) → Settings → List Particle → List ℕ
+massesBy w s ps = grid (s .nx) (s .ny) (λ i j. natAbs (nodeMass w ps i j))
 
-unfoldable pub momenta : Settings → Axis → List Particle → List ℤ
-momenta s a ps = grid (s .nx) (s .ny) (nodeMomentum axisWeight D a ps)
+unfoldable pub momentaBy : (ℕ → ℕ → ℤ) → ℕ → Settings → Axis → List Particle → List ℤ
+momentaBy w d s a ps = grid (s .nx) (s .ny) (nodeMomentum w d a ps)
 
 -- the node velocities on an axis after the update
-unfoldable pub updatedVelocities : Settings → Axis → List Particle → List ℤ
-updatedVelocities s a ps = velocities (s .nx * s .ny) (gravity s a) (masses s ps) (momenta s a ps)
+unfoldable pub velocitiesBy : (ℕ → ℕ → ℤ) → ℕ → Settings → Axis → List Particle → List ℤ
+velocitiesBy w d s a ps = velocities d (s .nx * s .ny) (gravity s a) (massesBy w s ps) (momentaBy w d s a ps)
 
 -- a particle after the gather
-abbrev pub move : Settings → List Particle → Particle → Particle
-move s ps = gathered axisWeight (s .nx) (s .ny) (updatedVelocities s alongX ps) (updatedVelocities s alongY ps)
+abbrev pub moveBy : (ℕ → ℕ → ℤ) → ℕ → Settings → List Particle → Particle → Particle
+moveBy w d s ps = gathered w (s .nx) (s .ny) (velocitiesBy w d s alongX ps) (velocitiesBy w d s alongY ps)
 
 -- the particles after a step
-unfoldable pub stepped : Settings → List Particle → List Particle
-stepped s ps = map (move s ps) ps
+unfoldable pub steppedBy : (ℕ → ℕ → ℤ) → ℕ → Settings → List Particle → List Particle
+steppedBy w d s ps = map (moveBy w d s ps) ps
 
 -- a step that is tried: for each record 13, 14, 15
-unfoldable pub stepOf : Settings → List Particle → Answer (List Particle)
-stepOf s ps = moveChecks (s .nx) (s .ny) (move s ps) 0 ps (result (stepped s ps))
-
--- ---- what a caller sees
+unfoldable pub stepBy : (ℕ → ℕ → ℤ) → ℕ → Settings → List Particle → Answer (List Particle)
+stepBy w d s ps = moveChecks (s .nx) (s .ny) (moveBy w d s ps) 0 ps (result (steppedBy w d s ps))
 
 -- "the grid holds masses and updated velocities of the last step tried"
+abbrev pub nodesBy : (ℕ → ℕ → ℤ) → ℕ → Settings → List Particle → Grids
+nodesBy w d s ps = record { mass = massesBy w s ps; x = velocitiesBy w d s alongX ps; y = velocitiesBy w d s alongY ps }
+
+-- ---- with the spline's
+
+abbrev pub masses : Settings → List Particle → List ℕ
+masses = massesBy axisWeight
+
+abbrev pub momenta : Settings → Axis → List Particle → List ℤ
+momenta = momentaBy axisWeight D
+
+abbrev pub updatedVelocities : Settings → Axis → List Particle → List ℤ
+updatedVelocities = velocitiesBy axisWeight D
+
+abbrev pub stepped : Settings → List Particle → List Particle
+stepped = steppedBy axisWeight D
+
+abbrev pub stepOf : Settings → List Particle → Answer (List Particle)
+stepOf = stepBy axisWeight D
+
 abbrev pub nodesOf : Settings → List Particle → Grids
-nodesOf s ps = record { mass = masses s ps; x = updatedVelocities s alongX ps; y = updatedVelocities s alongY ps }
+nodesOf = nodesBy axisWeight D
+
+-- ---- what a caller sees
 
 -- the answer of a call, and the records and grids as it leaves them
 pub record After (A : Type 0) : Type 0 where

@@ -1,4 +1,4 @@
 pub mod Digits
+pub mod Filling
 pub mod Puts
-pub mod Sizes
 pub mod Texts

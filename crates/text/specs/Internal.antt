@@ -1,12 +1,14 @@
 -- What the functions that append to a buffer compute: their contracts name these.
 -- Assumes nothing.
 use Prim.Native.Nat.{ℕ, _+_, _≤_}
+use mathlib.Core.Bool.{cond}
 use mathlib.Core.Path.{_≡_}
 use mathlib.Core.List.{List, [], _∷_, _++_}
+use lib.Dec.{eqb}
 use lib.IntN.{ℤ}
 use lib.ListN.{length}
 use Rattle.arith.specs.Lists.{placed}
-use Rattle.text.specs.Decimal.{space, decimal, signed}
+use Rattle.text.specs.Decimal.{decimal, signed}
 
 -- the buffer has room for a text at a position
 pub record Room (out : List ℕ) (at : ℕ) (text : List ℕ) : Type 0 where
@@ -22,10 +24,20 @@ pub record Put (out : List ℕ) (at : ℕ) (text after : List ℕ) (end : ℕ) :
 abbrev pub naturalText : ℕ → ℕ → List ℕ
 naturalText n end = decimal n ++ (end ∷ [])
 
-abbrev pub integerText : ℤ → ℕ → List ℕ
-integerText z end = signed z ++ (end ∷ [])
+-- ---- a text with numbers in its gaps, which are question marks
 
--- numbers, each with a space behind it
-abbrev pub spacedText : List ℤ → List ℕ
-spacedText [] = []
-spacedText (z ∷ zs) = integerText z space ++ spacedText zs
+abbrev pub gap : ℕ
+gap = 63
+
+-- what a byte of the text becomes, and the numbers that are then left; where none is left, a question mark stays
+abbrev pub pieceOf : ℕ → List ℤ → List ℕ
+pieceOf b [] = b ∷ []
+pieceOf b (z ∷ zs) = cond (eqb b gap) (signed z) (b ∷ [])
+
+abbrev pub leftBy : ℕ → List ℤ → List ℤ
+leftBy b [] = []
+leftBy b (z ∷ zs) = cond (eqb b gap) zs (z ∷ zs)
+
+abbrev pub filledIn : List ℕ → List ℤ → List ℕ
+filledIn [] zs = []
+filledIn (b ∷ bs) zs = pieceOf b zs ++ filledIn bs (leftBy b zs)

@@ -1,3 +1,4 @@
-pub mod Admitted
+pub mod Fields
+pub mod CheckedParticle
 pub mod Shares
 pub mod Turns

@@ -8,7 +8,7 @@ use lib.IntN.{ℤ, pos, natAbs, _+ℤ_, _-ℤ_, _*ℤ_}
 use Rattle.refusal.specs.Refused.{Answer, result, refusedBy, andThen}
 use Rattle.particle.specs.declared.Particle.{Particle}
 use Rattle.particle.specs.Record.{readAnswer}
-use Rattle.particles.specs.Set.{admitted, recordAt, setOf}
+use Rattle.particles.specs.Set.{checkedParticle, recordAt, setOf}
 use Rattle.totals.specs.declared.Totals.{Totals}
 use Rattle.totals.specs.declared.Progress.{Progress}
 use Rattle.totals.specs.declared.Next.{Next}
@@ -78,7 +78,7 @@ toldNext (next.Passed s) = result s
 toldNext (next.Refused e) = refusedBy e
 
 abbrev pub nextAnswer : ℕ → ℕ → ℕ → Progress → Particle → Answer Progress
-nextAnswer nx ny k s p = andThen (admitted nx ny k (s .least) (s .totals .mass) p) (λ q. result (advanced s q))
+nextAnswer nx ny k s p = andThen (checkedParticle nx ny k (s .least) (s .totals .mass) p) (λ q. result (advanced s q))
 
 abbrev pub SmallNext : ℕ → Next → Type 0
 SmallNext n (next.Passed s) = Small n (s .totals)

@@ -134,7 +134,7 @@ fn next_record(
     ensures { λ r. ⌜ (toldNext r ≡ nextRecord nx ny start (now (bytes .entry)) k progress) × SmallNext (k + 1) r ⌝ }
 {
     let at = start + RECORD_LENGTH * k;
-    match particle::read_indexed(&bytes[at..at + RECORD_LENGTH], k) {
+    match record_reader::read_indexed(&bytes[at..at + RECORD_LENGTH], k) {
         Read::Found(p) => next_particle(p, k, nx, ny, progress),
         Read::Refused(refusal) => Next::Refused(refusal),
     }

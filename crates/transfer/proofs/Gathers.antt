@@ -6,7 +6,6 @@
 --     stopped, gather-set, moved-on     the operation, by those checks
 -- Assumes nothing.
 use mathlib.Core.Path.{_≡_, refl, sym, ap, _∙_, subst}
-use mathlib.Core.Bool.{Bool, true, false, _&&_}
 use mathlib.Core.List.{List, map}
 use Prim.Native.Nat.{ℕ, _*_, _/_}
 use native.Mathlib.Omega.{arith}
@@ -29,11 +28,11 @@ use Rattle.particles.specs.Set.{recordCount, particlesIn}
 use Rattle.unpacked.specs.Unpacked.{perParticle}
 use Rattle.unpacked.proofs.Laws.{length-unpacked}
 use Rattle.packing.specs.Packing.{Packable, Packs}
-use Rattle.packing.proofs.Sets.{count-in, particlesIn-accepted, set-length}
-use Rattle.gather_core.specs.declared.Gathered.{Gathered}
-use Rattle.gather_core.specs.Gather.{gathered, toldGathered}
-use Rattle.gather_core.proofs.Checks.{follow, checks-follow}
-use Rattle.gather_core.proofs.Kept.{set-kept}
+use Rattle.unpacking.proofs.Sets.{count-in, particlesIn-accepted, set-length}
+use Rattle.gathering.specs.declared.Gathered.{Gathered}
+use Rattle.gathering.specs.Gather.{gathered, toldGathered}
+use Rattle.gathering.proofs.Checks.{follow, checks-follow}
+use Rattle.gathering.proofs.Kept.{set-kept}
 use Rattle.settings.specs.Settings.{still}
 use Rattle.entry.specs.declared.Buffers.the-variants.{Two}
 use Rattle.entry.specs.Entry.{entryAnswer}

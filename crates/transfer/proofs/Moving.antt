@@ -19,14 +19,14 @@ use Rattle.apic.specs.Limits.{SetLimits}
 use Rattle.particles.specs.Set.{recordCount, particlesIn}
 use Rattle.unpacked.specs.Unpacked.{perParticle, unpacked, Holds}
 use Rattle.unpacked.proofs.Laws.{unpacked-append, numbers-count}
-use Rattle.packing.proofs.Parts.{count-part, particles-part}
-use Rattle.packing.proofs.Sets.{count-in}
+use Rattle.unpacking.proofs.Parts.{count-part, particles-part}
+use Rattle.unpacking.proofs.Sets.{count-in}
 use Rattle.scatter_core.proofs.Parts.{limits-part}
-use Rattle.gather_core.specs.declared.Gathered.{Gathered}
-use Rattle.gather_core.specs.declared.Gathered.the-variants.{Refused}
-use Rattle.gather_core.specs.Gather.{gathered, moveChecks, answerFrom, toldGathered, Gatherable, Gathers}
-use Rattle.gather_core.proofs.Checks.{follow, checks-follow, checks-append}
-use Rattle.gather_core.proofs.Kept.{all-moved}
+use Rattle.gathering.specs.declared.Gathered.{Gathered}
+use Rattle.gathering.specs.declared.Gathered.the-variants.{Refused}
+use Rattle.gathering.specs.Gather.{gathered, moveChecks, answerFrom, toldGathered, Gatherable, Gathers}
+use Rattle.gathering.proofs.Checks.{follow, checks-follow, checks-append}
+use Rattle.gathering.proofs.Kept.{all-moved}
 use Rattle.transfer.specs.Internal.{MoveReady, PartRoom, MovedFrom}
 
 -- ---- some records, by the core

@@ -5,14 +5,14 @@
 --     add-ready, built-in-scattered what the loop asks of an accepted set and cleared grids, and leaves with the spline's table
 --     scatter-set, done-fills       the contract, by the answer at entry
 -- Assumes nothing.
-use mathlib.Core.Path.{_≡_, refl, sym, ap, _∙_, subst, subst₂}
+use mathlib.Core.Path.{_≡_, sym, ap, _∙_, subst, subst₂}
 use mathlib.Core.List.{List}
 use Prim.Native.Nat.{ℕ, _+_, _*_, _≤_, zero-le}
 use native.Mathlib.Omega.{arith}
 use lib.ListN.{length, take, drop, replicate}
 use lib.Seq.{take-all}
 use lib.IntN.{ℤ, pos}
-use Rattle.refusal.specs.Refused.{Answer, result, refused, done}
+use Rattle.refusal.specs.Refused.{result, done}
 use Rattle.refusal.proofs.Answers.{done-leaves}
 use Rattle.spline.specs.Spline.{axisWeight, D}
 use Rattle.spline.specs.Kernel.{weightIn, BuiltIn}
@@ -24,8 +24,8 @@ use Rattle.apic.specs.Totals.{totalMass}
 use Rattle.apic.specs.Limits.{SetLimits}
 use Rattle.particles.specs.Set.{recordCount, particlesIn}
 use Rattle.unpacked.specs.Unpacked.{unpacked, UnpackedSet}
-use Rattle.packing.proofs.Parts.{particles-part}
-use Rattle.packing.proofs.Sets.{count-in, particlesIn-accepted}
+use Rattle.unpacking.proofs.Parts.{particles-part}
+use Rattle.unpacking.proofs.Sets.{count-in, particlesIn-accepted}
 use Rattle.scatter_block.specs.Lines.{Held}
 use Rattle.scatter_particle.specs.Added.{Added}
 use Rattle.scatter_core.specs.Scatter.{Room, mostShare, SetReady, ScatteredGrids}

@@ -13,7 +13,7 @@ use Rattle.apic.specs.Limits.{SetLimits}
 use Rattle.particles.specs.Set.{recordCount, setAnswer, particlesIn}
 use Rattle.particles.proofs.Accepted.{accepted-limits}
 use Rattle.particles.proofs.Checks.{length-limits, entered}
-use Rattle.packing.proofs.Sets.{particlesIn-accepted}
+use Rattle.unpacking.proofs.Sets.{particlesIn-accepted}
 
 module _ (nx ny : ℕ) (records : List ℕ) {ps : List Particle} (e : setAnswer nx ny records ≡ result ps) where
   pub accepted-set : SetLimits nx ny (particlesIn records)

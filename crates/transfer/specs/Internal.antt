@@ -15,8 +15,8 @@ use Rattle.particles.specs.Set.{setLength, setAnswer, recordCount, particlesIn}
 use Rattle.unpacked.specs.Unpacked.{perParticle, unpacked}
 use Rattle.scatter_block.specs.Lines.{Held}
 use Rattle.scatter_core.specs.Scatter.{Room}
-use Rattle.gather_core.specs.declared.Gathered.{Gathered}
-use Rattle.gather_core.specs.Gather.{gathered, answerFrom, toldGathered, NodeVelocities}
+use Rattle.gathering.specs.declared.Gathered.{Gathered}
+use Rattle.gathering.specs.Gather.{gathered, answerFrom, toldGathered, NodeVelocities}
 
 -- a set is worked on in parts of so many records
 abbrev pub part : ℕ
@@ -37,6 +37,12 @@ pub record AddReady (nx ny : ℕ) (records : List ℕ) (table : List (List ℕ))
   pub limits : SetLimits nx ny (particlesIn records)
   pub kernel : Kernel table D
   pub cleared : Held 0 (nx * ny) mass px py
+
+-- the same with whole records, and room for the numbers of a part
+pub record PartsReady (nx ny : ℕ) (records : List ℕ) (array : List ℤ) (table : List (List ℕ)) (D : ℕ) (mass : List ℕ) (px py : List ℤ) : Type 0 where
+  pub ready : AddReady nx ny records table D mass px py
+  pub whole : recordLength * recordCount records ≡ length records
+  pub room : length array ≡ part * perParticle
 
 -- some records of a set, and grids with room for them
 pub record PartReady (nx ny : ℕ) (records : List ℕ) (table : List (List ℕ)) (D : ℕ) (mass : List ℕ) (px py : List ℤ) : Type 0 where
@@ -72,6 +78,11 @@ pub record SetRoom (records : List ℕ) (source target : List ℤ) : Type 0 wher
   pub whole : recordLength * recordCount records ≡ length records
   pub source-numbers : length source ≡ part * perParticle
   pub target-numbers : length target ≡ perParticle * recordCount records
+
+-- both
+pub record PartsMovable (nx ny : ℕ) (records : List ℕ) (source target ux uy : List ℤ) : Type 0 where
+  pub ready : MoveReady nx ny records ux uy
+  pub room : SetRoom records source target
 
 -- what is left of the records from record `first` on: where none is refused, the moved particles, and else anything
 pub record MovedFrom (w : ℕ → ℕ → ℤ) (first nx ny : ℕ) (records : List ℕ) (ux uy target : List ℤ) (r : Gathered) : Type 0 where

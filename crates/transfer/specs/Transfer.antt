@@ -6,6 +6,7 @@ use Prim.Native.Nat.{ℕ, _*_}
 use lib.ListN.{length, getD}
 use lib.IntN.{ℤ, pos, natAbs}
 use Rattle.refusal.specs.Refused.{Answer, result, refusedBy, refuseIf, andThen, done, forEach, Leaves}
+use Rattle.limits.specs.Limits.{mostNodeVelocity}
 use Rattle.spline.specs.Spline.{axisWeight, D}
 use Rattle.particle.specs.declared.Particle.{Particle}
 use Rattle.apic.specs.Step.{alongX, alongY, nodeMass, nodeMomentum, Grids, gridsOf, grid}
@@ -14,7 +15,7 @@ use Rattle.entry.specs.Checks.{bothWithin}
 use Rattle.settings.specs.Settings.{still}
 use Rattle.entry.specs.declared.Buffers.the-variants.{Two, Three}
 use Rattle.entry.specs.Entry.{entryAnswer}
-use Rattle.gather_core.specs.Gather.{gathered, moveChecks}
+use Rattle.gathering.specs.Gather.{gathered, moveChecks}
 use Rattle.transfer.specs.declared.Scattered.{Scattered}
 use Rattle.transfer.specs.declared.Scattered.the-variants as scattered
 use Rattle.transfer.specs.declared.Moved.{Moved}
@@ -52,7 +53,7 @@ ScatterIs nx ny records mass px py told mass′ px′ py′ =
 
 -- 12 for each node with a velocity beyond ±131,072
 abbrev pub velocityCheck : List ℤ → List ℤ → ℕ → Answer Unit
-velocityCheck ux uy k = refuseIf (not (bothWithin 131072 (getD ux k (pos 0)) (getD uy k (pos 0)))) 12 k done
+velocityCheck ux uy k = refuseIf (not (bothWithin mostNodeVelocity (getD ux k (pos 0)) (getD uy k (pos 0)))) 12 k done
 
 unfoldable pub velocityChecks : ℕ → List ℤ → List ℤ → Answer Unit
 velocityChecks n ux uy = forEach (velocityCheck ux uy) 0 n

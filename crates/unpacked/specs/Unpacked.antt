@@ -71,3 +71,15 @@ pub record HoldsAt (nx ny : ℕ) (l : List ℤ) (k : ℕ) (p : Particle) : Type 
 pub record ParticleAt (nx ny : ℕ) (l : List ℤ) (k : ℕ) : Type 0 where
   pub particle : Particle
   pub holds : HoldsAt nx ny l k particle
+
+-- ---- a particle read from it
+
+-- the numbers of some particle stand at place k
+pub record ReadableAt (l : List ℤ) (k : ℕ) : Type 0 where
+  pub particle : Particle
+  pub inside : perParticle * k + perParticle ≤ length l
+  pub numbers : NumbersAt l k particle
+
+-- r is the particle with this identifier whose numbers stand there
+abbrev pub ReadsAt : List ℤ → ℕ → ℕ → Particle → Type 0
+ReadsAt l k identifier r = (p : Particle) → NumbersAt l k p → p .identifier ≡ identifier → r ≡ p

@@ -1,9 +1,10 @@
-// Particles as one array of numbers: specs/ says how. Here is what reads one.
+// Particles as one array of numbers: specs/ says how. Here is what reads it.
 ghost use mathlib.Core.Path.{_≡_};
 ghost use Prim.Native.Nat.{_<_};
 ghost use lib.ListN.{length, getD};
 ghost use lib.IntN.{pos, natAbs};
-ghost use Rattle.unpacked.specs.Unpacked.{NaturalAt};
+ghost use Rattle.unpacked.specs.Unpacked.{NaturalAt, ReadableAt, ReadsAt};
+use particle::Particle;
 
 // How many numbers a particle has in an array.
 pub const NUMBERS: usize = 9;
@@ -22,4 +23,24 @@ pub fn natural_at(array: &[i16], at: usize) -> u16
     ensures { λ r. ⌜ r ≡ natAbs (getD (now (array .entry)) at (pos 0)) ⌝ }
 {
     array[at] as u16
+}
+
+// The particle with index k, under this identifier.
+pub fn particle_at(array: &[i16], k: usize, identifier: u16) -> Particle
+    requires { ⌜ ReadableAt (now array) k ⌝ }
+    ensures { λ r. ⌜ ReadsAt (now (array .entry)) k identifier r ⌝ }
+{
+    let at = NUMBERS * k;
+    Particle {
+        identifier: identifier,
+        mass: natural_at(array, at),
+        x: natural_at(array, at + 1),
+        y: natural_at(array, at + 2),
+        vx: array[at + 3],
+        vy: array[at + 4],
+        bxx: array[at + 5],
+        bxy: array[at + 6],
+        byx: array[at + 7],
+        byy: array[at + 8],
+    }
 }

@@ -1,16 +1,19 @@
--- Document 01, operation "Update": what it answers for any numbers and any buffers, and what the grids hold afterwards.
+-- Document 01, operation "Update": what it answers for any numbers and any buffers, and what the grids hold afterwards. The
+-- operation's D is the spline's; what stands before it is for any.
 -- Assumes nothing.
 use mathlib.Core.Path.{_≡_}
 use mathlib.Core.Bool.{Bool, not, _&&_, _||_}
 use mathlib.Core.List.{List, map}
-use Prim.Native.Nat.{ℕ, _*_, _^_, _≤_, _<_}
+use Prim.Native.Nat.{ℕ, _*_, _≤_, _<_}
 use lib.Dec.{ltb, eqb}
 use lib.ListN.{length, getD}
 use lib.IntN.{ℤ, pos, natAbs}
 use Rattle.arith.specs.Sums.{upTo}
 use Rattle.arith.specs.Rounding.{rounded}
 use Rattle.refusal.specs.Refused.{Answer, refusedBy, refuseIf, andThen, done, forEach, Leaves}
+use Rattle.limits.specs.Limits.{mostNodeMass, mostNodeVelocity, mostGravity}
 use Rattle.spline.specs.Spline.{D}
+use Rattle.spline.specs.Kernel.{Spread}
 use Rattle.apic.specs.Step.{nodeVelocity}
 use Rattle.update.specs.declared.Updated.{Updated}
 use Rattle.update.specs.declared.Updated.the-variants.{Done, Refused}
@@ -18,52 +21,53 @@ use Rattle.entry.specs.declared.Buffers.the-variants.{Three}
 use Rattle.entry.specs.Checks.{bothWithin}
 use Rattle.entry.specs.Entry.{beginAnswer}
 
--- a node's velocity on one axis, with the spline's D: momentum/(4M), rounded, plus gravity; 0 where M is 0
-abbrev pub velocityOf : ℤ → ℕ → ℤ → ℤ
-velocityOf g M momentum = nodeVelocity rounded D g M momentum
+-- a node's velocity on one axis: momentum/(M·D/256), rounded, plus gravity; 0 where M is 0
+abbrev pub velocityOf : ℕ → ℤ → ℕ → ℤ → ℤ
+velocityOf d g M momentum = nodeVelocity rounded d g M momentum
 
 -- ---- the limits of a node
 
 -- 11: mass above 2^43, or mass 0 with momentum not 0
 abbrev pub breaksMass : ℕ → ℤ → ℤ → Bool
-breaksMass M px py = ltb (2 ^ 43) M || (eqb M 0 && (not (eqb (natAbs px) 0) || not (eqb (natAbs py) 0)))
+breaksMass M px py = ltb mostNodeMass M || (eqb M 0 && (not (eqb (natAbs px) 0) || not (eqb (natAbs py) 0)))
 
 -- 12: a resulting velocity beyond ±131,072
-abbrev pub breaksVelocity : ℤ → ℤ → ℕ → ℤ → ℤ → Bool
-breaksVelocity gx gy M px py = not (bothWithin 131072 (velocityOf gx M px) (velocityOf gy M py))
+abbrev pub breaksVelocity : ℕ → ℤ → ℤ → ℕ → ℤ → ℤ → Bool
+breaksVelocity d gx gy M px py = not (bothWithin mostNodeVelocity (velocityOf d gx M px) (velocityOf d gy M py))
 
-unfoldable pub checkNode : ℤ → ℤ → ℕ → ℕ → ℤ → ℤ → Answer Unit
-checkNode gx gy k M px py =
-    refuseIf (breaksMass M px py) 11 k (refuseIf (breaksVelocity gx gy M px py) 12 k done)
+unfoldable pub checkNode : ℕ → ℤ → ℤ → ℕ → ℕ → ℤ → ℤ → Answer Unit
+checkNode d gx gy k M px py =
+    refuseIf (breaksMass M px py) 11 k (refuseIf (breaksVelocity d gx gy M px py) 12 k done)
 
 -- the same as facts
-pub record NodeLimits (gx gy : ℤ) (M : ℕ) (px py : ℤ) : Type 0 where
-  pub mass : M ≤ 2 ^ 43
+pub record NodeLimits (d : ℕ) (gx gy : ℤ) (M : ℕ) (px py : ℤ) : Type 0 where
+  pub mass : M ≤ mostNodeMass
   pub massless-x : M ≡ 0 → px ≡ pos 0
   pub massless-y : M ≡ 0 → py ≡ pos 0
-  pub vx : natAbs (velocityOf gx M px) ≤ 131072
-  pub vy : natAbs (velocityOf gy M py) ≤ 131072
+  pub vx : natAbs (velocityOf d gx M px) ≤ mostNodeVelocity
+  pub vy : natAbs (velocityOf d gy M py) ≤ mostNodeVelocity
 
 -- ---- grids of n nodes
 
-abbrev pub checkNodeAt : ℤ → ℤ → List ℕ → List ℤ → List ℤ → ℕ → Answer Unit
-checkNodeAt gx gy mass px py k = checkNode gx gy k (getD mass k 0) (getD px k (pos 0)) (getD py k (pos 0))
+abbrev pub checkNodeAt : ℕ → ℤ → ℤ → List ℕ → List ℤ → List ℤ → ℕ → Answer Unit
+checkNodeAt d gx gy mass px py k = checkNode d gx gy k (getD mass k 0) (getD px k (pos 0)) (getD py k (pos 0))
 
-unfoldable pub checkNodes : ℕ → ℤ → ℤ → List ℕ → List ℤ → List ℤ → Answer Unit
-checkNodes n gx gy mass px py = forEach (checkNodeAt gx gy mass px py) 0 n
+unfoldable pub checkNodes : ℕ → ℕ → ℤ → ℤ → List ℕ → List ℤ → List ℤ → Answer Unit
+checkNodes d n gx gy mass px py = forEach (checkNodeAt d gx gy mass px py) 0 n
 
 -- the velocities on one axis, from the masses and the momenta
-unfoldable pub velocities : ℕ → ℤ → List ℕ → List ℤ → List ℤ
-velocities n g mass momentum = map (λ k. velocityOf g (getD mass k 0) (getD momentum k (pos 0))) (upTo n)
+unfoldable pub velocities : ℕ → ℕ → ℤ → List ℕ → List ℤ → List ℤ
+velocities d n g mass momentum = map (λ k. velocityOf d g (getD mass k 0) (getD momentum k (pos 0))) (upTo n)
 
--- grids of n nodes, gravity and every node within their limits
-pub record GridLimits (n : ℕ) (gx gy : ℤ) (mass : List ℕ) (px py : List ℤ) : Type 0 where
+-- grids of n nodes; D, gravity and every node within their limits
+pub record GridLimits (d n : ℕ) (gx gy : ℤ) (mass : List ℕ) (px py : List ℤ) : Type 0 where
+  pub spread : Spread d
   pub mass-length : length mass ≡ n
   pub px-length : length px ≡ n
   pub py-length : length py ≡ n
-  pub gravity-x : natAbs gx ≤ 4096
-  pub gravity-y : natAbs gy ≤ 4096
-  pub nodes : (k : ℕ) → k < n → NodeLimits gx gy (getD mass k 0) (getD px k (pos 0)) (getD py k (pos 0))
+  pub gravity-x : natAbs gx ≤ mostGravity
+  pub gravity-y : natAbs gy ≤ mostGravity
+  pub nodes : (k : ℕ) → k < n → NodeLimits d gx gy (getD mass k 0) (getD px k (pos 0)) (getD py k (pos 0))
 
 -- ---- the operation
 
@@ -75,7 +79,7 @@ toldUpdate (Refused e) = refusedBy e
 unfoldable pub updateAnswer : ℕ → ℕ → ℤ → ℤ → List ℕ → List ℤ → List ℤ → Answer Unit
 updateAnswer nx ny gx gy mass px py =
     andThen (beginAnswer (record { nx = nx; ny = ny; gx = gx; gy = gy }) (Three (length mass) (length px) (length py)) 0 0)
-    (λ _. checkNodes (nx * ny) gx gy mass px py)
+    (λ _. checkNodes D (nx * ny) gx gy mass px py)
 
 -- the grids of both axes
 pub record BothAxes : Type 0 where
@@ -89,4 +93,4 @@ bothAxes x y = record { x = x; y = y }
 abbrev pub UpdateIs : ℕ → ℕ → ℤ → ℤ → List ℕ → List ℤ → List ℤ → Answer Unit → List ℤ → List ℤ → Type 0
 UpdateIs nx ny gx gy mass px py told px′ py′ =
     Leaves (updateAnswer nx ny gx gy mass px py)
-    (λ _. bothAxes (velocities (nx * ny) gx mass px) (velocities (nx * ny) gy mass py)) (bothAxes px py) told (bothAxes px′ py′)
+    (λ _. bothAxes (velocities D (nx * ny) gx mass px) (velocities D (nx * ny) gy mass py)) (bothAxes px py) told (bothAxes px′ py′)

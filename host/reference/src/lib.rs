@@ -10,7 +10,6 @@
 //! | [`simulation`] | step, run |
 //! | [`bath_file`] | read a file, write a header |
 //! | [`report`] | the program's text |
-//! | [`lines`] | the parts of a line of the programs of cases |
 //! | [`conservation`] | the sums and allowances of demand 3 |
 //! | [`generator`] | seeded numbers for samples and tests |
 //!
@@ -26,7 +25,6 @@ pub mod conservation;
 pub mod generator;
 pub mod grid;
 pub mod limits;
-pub mod lines;
 pub mod particle;
 pub mod particle_set;
 pub mod refusal;

@@ -15,14 +15,16 @@ slice-aggregate-gather-parts c = search needs
 
 gather-parts-requires : tie.Need-gather-parts-requires
 gather-parts-requires c κs =
-    let s = c .before .before .before .before .before in (
-      move-ready (s .pre .0),
-      record {
-        whole = whole-records (s .args .nx) (s .args .ny) (s .args .records .now) (s .pre .0 .set);
-        source-numbers = search needs;
-        target-numbers = s .pre .1;
-      },
-    )
+    let s = c .before .before .before .before .before in
+    record {
+      ready = move-ready (s .pre .0);
+      room =
+          record {
+            whole = whole-records (s .args .nx) (s .args .ny) (s .args .records .now) (s .pre .0 .set);
+            source-numbers = search needs;
+            target-numbers = s .pre .1;
+          };
+    }
 
 same-length : tie.Need-same-length
 same-length c = search needs

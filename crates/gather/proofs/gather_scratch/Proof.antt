@@ -10,7 +10,7 @@ use Rattle.particle.specs.Layout.{recordLength}
 use Rattle.particles.specs.Set.{recordCount}
 use Rattle.unpacked.specs.Unpacked.{perParticle}
 use Rattle.packing.specs.Packing.{Packable, Packs}
-use Rattle.gather_core.specs.Gather.{toldGathered}
+use Rattle.gathering.specs.Gather.{toldGathered}
 use Rattle.transfer.proofs.Sets.{accepted-set, whole-records}
 use Rattle.transfer.proofs.Gathers.{refused-moves, pack-ready, done-moves}
 use Rattle.gather.proofs.gather_scratch.Statement.{statement}

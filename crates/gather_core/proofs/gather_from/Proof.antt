@@ -7,8 +7,8 @@ use lib.ListN.{length}
 use lib.IntN.{ℤ}
 use borrow.Author.Needs.{needs}
 use Rattle.spline.specs.Kernel.{weightIn}
-use Rattle.gather_core.specs.Gather.{Gatherable}
-use Rattle.gather_core.proofs.Walk.{Walks, walks-start, walks-turn, walks-stop, walks-end}
+use Rattle.gathering.specs.Gather.{Gatherable}
+use Rattle.gathering.proofs.Walk.{Walks, walks-start, walks-turn, walks-stop, walks-end}
 use Rattle.gather_core.proofs.gather_from.Statement.{statement}
 use Rattle.gather_core.proofs.gather_from.Tie as tie
 

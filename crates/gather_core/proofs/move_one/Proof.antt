@@ -9,13 +9,14 @@ use mir.Syntax.{w64}
 use borrow.Author.Needs.{needs}
 use Rattle.arith.specs.Size.{bound-pos, bound-equal}
 use Rattle.arith.specs.Machine.{read-natural, read-result}
+use Rattle.limits.specs.Limits.{mostPosition}
 use Rattle.spline.specs.Kernel.{weightIn}
 use Rattle.unpacked.specs.Unpacked.{ParticleAt}
 use Rattle.unpacked.proofs.Laws.{some-at, x-at, y-at}
 use Rattle.gather_point.specs.Point.{Around, axisAt}
 use Rattle.gather_point.proofs.Nodes.{axis-at}
-use Rattle.gather_core.specs.Gather.{gathered}
-use Rattle.gather_core.proofs.Record.{placed, moves, x-axis, y-axis}
+use Rattle.gathering.specs.Gather.{gathered}
+use Rattle.gathering.proofs.Record.{placed, moves, x-axis, y-axis}
 use Rattle.gather_core.proofs.move_one.Statement.{statement}
 use Rattle.gather_core.proofs.move_one.Tie as tie
 
@@ -33,11 +34,11 @@ x-is c = c .natural-at .ensures ∙ ap natAbs (some (c .before) .holds .numbers 
 y-is : (c : tie.After-natural-at2) → c .natural-at2 .result ≡ some (c .before .before) .particle .y
 y-is c = c .natural-at2 .ensures ∙ ap natAbs (some (c .before .before) .holds .numbers .y)
 
-x-most : (c : tie.After-natural-at) → c .natural-at .result ≤ 4095
-x-most c = subst (λ x. x ≤ 4095) (sym (x-is c)) (around (c .before) .x-most)
+x-most : (c : tie.After-natural-at) → c .natural-at .result ≤ mostPosition
+x-most c = subst (λ x. x ≤ mostPosition) (sym (x-is c)) (around (c .before) .x-most)
 
-y-most : (c : tie.After-natural-at2) → c .natural-at2 .result ≤ 4095
-y-most c = subst (λ y. y ≤ 4095) (sym (y-is c)) (around (c .before .before) .y-most)
+y-most : (c : tie.After-natural-at2) → c .natural-at2 .result ≤ mostPosition
+y-most c = subst (λ y. y ≤ mostPosition) (sym (y-is c)) (around (c .before .before) .y-most)
 
 mul-at : tie.Need-mul-at
 mul-at c = search needs

@@ -1,31 +1,52 @@
 -- `gather_parts::gather_parts` meets its contract. The loop's invariant is the walk's; the measure is what is left of the records.
 -- Assumes nothing.
 use mathlib.Core.Path.{_≡_, sym, ap, _∙_}
-use Prim.Native.Nat.{_+_, _-_, _*_, _/_}
+use mathlib.Core.List.{List}
+use Prim.Native.Nat.{ℕ, _+_, _-_, _*_, _/_}
 use native.Mathlib.Omega.{arith}
 use borrow.Author.Needs.{needs}
 use lib.ListN.{length}
 use lib.Seq.{length-take-le}
+use lib.IntN.{ℤ}
 use Rattle.spline.specs.Kernel.{weightIn}
 use Rattle.particle.specs.Layout.{recordLength}
 use Rattle.unpacked.specs.Unpacked.{perParticle}
-use Rattle.gather_core.specs.Gather.{toldGathered}
+use Rattle.gathering.specs.Gather.{toldGathered}
 use Rattle.transfer.specs.Internal.{part}
 use Rattle.transfer.proofs.Moving.{Walk, start, part-ready, part-room, turn, stop, last}
 use Rattle.transfer.proofs.Parts.{part-bytes, part-numbers, rest-bytes, rest-numbers, rest-inside, rest-all}
 use Rattle.gather_parts.proofs.gather_parts.Statement.{statement}
 use Rattle.gather_parts.proofs.gather_parts.Tie as tie
 
+-- the walk so far, and the room for the numbers of a part
+record Looped (w : ℕ → ℕ → ℤ) (nx ny : ℕ) (records : List ℕ) (ux uy source target : List ℤ) (k : ℕ) : Type 0 where
+  walk : Walk w nx ny records ux uy target k
+  room : length source ≡ part * perParticle
+
 abbrev Inv-loop : tie.InvT-loop
-Inv-loop nx ny records from₀ to₀ table ux uy count k₀ from to k = Walk (weightIn table) nx ny records ux uy to k × (length from ≡ part * perParticle)
+Inv-loop nx ny records from₀ to₀ table ux uy count k₀ from to k = Looped (weightIn table) nx ny records ux uy from to k
 
 abbrev μ-loop : tie.MeasureT-loop
 μ-loop nx ny records from₀ to₀ table ux uy count k₀ from to k = count - k
 
+-- back from a part to the loop, from the last part to it, and to the start
+abbrev looped : tie.After-gather-part Inv-loop μ-loop → tie.At-loop Inv-loop μ-loop
+looped r = r .before .before .before .before .before
+
+abbrev left : tie.After-gather-part2 Inv-loop μ-loop → tie.At-loop Inv-loop μ-loop
+left r = r .before .before .before .before .before
+
+abbrev begun : tie.At-loop Inv-loop μ-loop → tie.Start Inv-loop μ-loop
+begun l = l .before .before
+
 loop-holds : tie.Need-loop-holds Inv-loop μ-loop
 loop-holds c =
     let s = c .before in
-    (start (weightIn (s .args .table .now)) (s .args .nx) (s .args .ny) (s .args .records .now) (s .args .ux .now) (s .args .uy .now) (s .args .to .now) (s .pre .1 .target-numbers), s .pre .1 .source-numbers)
+    let a = s .args in
+    record {
+      walk = start (weightIn (a .table .now)) (a .nx) (a .ny) (a .records .now) (a .ux .now) (a .uy .now) (a .to .now) (s .pre .room .target-numbers);
+      room = s .pre .room .source-numbers;
+    }
 
 add-loop : tie.Need-add-loop Inv-loop μ-loop
 add-loop c = search needs
@@ -66,12 +87,12 @@ part-gather-part-end-2 c = search needs
 gather-part-requires : tie.Need-gather-part-requires Inv-loop μ-loop
 gather-part-requires c κs =
     let l = c .before .before .before .before in
-    let s = l .before .before in
+    let s = begun l in
     let k = l .loop .k in
-    let w = l .loop .inv .0 in
+    let w = l .loop .inv .walk in
     let m = recordLength * k + part * recordLength - recordLength * k in
     let inside = c .before .before .before .loop-test .taken in
-    (part-ready (s .pre .0) w part m (part-bytes k) inside, part-room (s .pre .0) w part m (part-bytes k) inside (perParticle * k + part * perParticle - perParticle * k) (part-numbers k) (l .loop .inv .1))
+    (part-ready (s .pre .ready) w part m (part-bytes k) inside, part-room (s .pre .ready) w part m (part-bytes k) inside (perParticle * k + part * perParticle - perParticle * k) (part-numbers k) (l .loop .inv .room))
 
 enum-told : tie.Need-enum-told Inv-loop μ-loop
 enum-told c = search needs
@@ -88,10 +109,10 @@ same-length-2 c = search needs
 returns : tie.Need-returns Inv-loop μ-loop
 returns c =
     let r = c .before .before .before .before .before in
-    let l = r .before .before .before .before .before in
+    let l = looped r in
     let k = l .loop .k in
     let m = recordLength * k + part * recordLength - recordLength * k in
-    stop (l .before .before .pre .0) (l .loop .inv .0) part m (part-bytes k) (r .before .before .before .before .loop-test .taken) (perParticle * k + part * perParticle - perParticle * k) (part-numbers k) (r .gather-part .ensures) (r .gather-part .kept .1 .1 .1 .1 .1 .0) (c .before .refusal .given .1)
+    stop (begun l .pre .ready) (l .loop .inv .walk) part m (part-bytes k) (r .before .before .before .before .loop-test .taken) (perParticle * k + part * perParticle - perParticle * k) (part-numbers k) (r .gather-part .ensures) (r .gather-part .kept .1 .1 .1 .1 .1 .0) (c .before .refusal .given .1)
 
 add-k : tie.Need-add-k Inv-loop μ-loop
 add-k c = search needs
@@ -102,12 +123,13 @@ loop-less c = search needs
 loop-again : tie.Need-loop-again Inv-loop μ-loop
 loop-again c =
     let r = c .before .before .before .before in
-    let l = r .before .before .before .before .before in
+    let l = looped r in
     let k = l .loop .k in
-    let m = recordLength * k + part * recordLength - recordLength * k in (
-      turn (l .before .before .pre .0) (l .loop .inv .0) part m (part-bytes k) (r .before .before .before .before .loop-test .taken) (perParticle * k + part * perParticle - perParticle * k) (part-numbers k) (r .gather-part .ensures) (r .gather-part .kept .1 .1 .1 .1 .1 .0) (ap toldGathered (c .enum-told .given .1)),
-      r .gather-part .kept .1 .1 .1 .1 .0 ∙ l .loop .inv .1,
-    )
+    let m = recordLength * k + part * recordLength - recordLength * k in
+    record {
+      walk = turn (begun l .pre .ready) (l .loop .inv .walk) part m (part-bytes k) (r .before .before .before .before .loop-test .taken) (perParticle * k + part * perParticle - perParticle * k) (part-numbers k) (r .gather-part .ensures) (r .gather-part .kept .1 .1 .1 .1 .1 .0) (ap toldGathered (c .enum-told .given .1));
+      room = r .gather-part .kept .1 .1 .1 .1 .0 ∙ l .loop .inv .room;
+    }
 
 sub-size : tie.Need-sub-size Inv-loop μ-loop
 sub-size c = search needs
@@ -133,7 +155,7 @@ slice-relend-prefix-gather-part c = search needs
 slice-aggregate-gather-part : tie.Need-slice-aggregate-gather-part Inv-loop μ-loop
 slice-aggregate-gather-part c =
     let l = c .before .before .before in
-    sym (length-take-le (perParticle * (length (l .before .before .args .records .now) / recordLength - l .loop .k)) (l .loop .from) (omega arith))
+    sym (length-take-le (perParticle * (length (begun l .args .records .now) / recordLength - l .loop .k)) (l .loop .from) (omega arith))
 
 mul-gather-part-3 : tie.Need-mul-gather-part-3 Inv-loop μ-loop
 mul-gather-part-3 c = search needs
@@ -153,15 +175,15 @@ part-gather-part-end-4 c = search needs
 gather-part-requires-2 : tie.Need-gather-part-requires-2 Inv-loop μ-loop
 gather-part-requires-2 c κs =
     let l = c .before .before .before .before in
-    let s = l .before .before in
+    let s = begun l in
     let k = l .loop .k in
-    let w = l .loop .inv .0 in
+    let w = l .loop .inv .walk in
     let bytes = length (s .args .records .now) in
     let n = bytes / recordLength - k in
-    let size = rest-bytes bytes k (s .pre .1 .whole) in
+    let size = rest-bytes bytes k (s .pre .room .whole) in
     let inside = rest-inside (bytes / recordLength) k (w .within) in (
-      part-ready (s .pre .0) w n (bytes - recordLength * k) size inside,
-      part-room (s .pre .0) w n (bytes - recordLength * k) size inside (length (l .loop .to) - perParticle * k) (rest-numbers (bytes / recordLength) k (w .room)) (length-take-le (perParticle * n) (l .loop .from) (omega arith)),
+      part-ready (s .pre .ready) w n (bytes - recordLength * k) size inside,
+      part-room (s .pre .ready) w n (bytes - recordLength * k) size inside (length (l .loop .to) - perParticle * k) (rest-numbers (bytes / recordLength) k (w .room)) (length-take-le (perParticle * n) (l .loop .from) (omega arith)),
     )
 
 same-length-3 : tie.Need-same-length-3 Inv-loop μ-loop
@@ -173,15 +195,15 @@ same-length-4 c = search needs
 returns-2 : tie.Need-returns-2 Inv-loop μ-loop
 returns-2 c =
     let r = c .before .before in
-    let l = r .before .before .before .before .before in
-    let s = l .before .before in
+    let l = left r in
+    let s = begun l in
     let k = l .loop .k in
-    let w = l .loop .inv .0 in
+    let w = l .loop .inv .walk in
     let bytes = length (s .args .records .now) in
     let n = bytes / recordLength - k in
-    let size = rest-bytes bytes k (s .pre .1 .whole) in
+    let size = rest-bytes bytes k (s .pre .room .whole) in
     let inside = rest-inside (bytes / recordLength) k (w .within) in
-    last (s .pre .0) w n (bytes - recordLength * k) size inside (length (l .loop .to) - perParticle * k) (rest-numbers (bytes / recordLength) k (w .room)) (r .gather-part2 .ensures) (r .gather-part2 .kept .1 .1 .1 .1 .1 .0) (rest-all (bytes / recordLength) k)
+    last (s .pre .ready) w n (bytes - recordLength * k) size inside (length (l .loop .to) - perParticle * k) (rest-numbers (bytes / recordLength) k (w .room)) (r .gather-part2 .ensures) (r .gather-part2 .kept .1 .1 .1 .1 .1 .0) (rest-all (bytes / recordLength) k)
 
 pub gather-parts-spec : {M : Type 1} → statement M
 gather-parts-spec =

@@ -10,7 +10,7 @@ use borrow.Author.Needs.{needs}
 use Rattle.arith.specs.Size.{Bound, bound-widen, bound-equal}
 use Rattle.arith.specs.Machine.{read, read-bound, read-result}
 use Rattle.arith.specs.Rounding.{rounded, rounded-bound}
-use Rattle.gather_point.specs.Point.{affineVelocityOf, momentAbout}
+use Rattle.gather_point.specs.Point.{affineVelocityOf, momentAbout, mostGathered}
 use Rattle.gather_point.proofs.affine_velocity.Statement.{statement}
 use Rattle.gather_point.proofs.affine_velocity.Tie as tie
 
@@ -50,7 +50,7 @@ returns c =
         bx = entry (b .0 .sum-size) (b .0 .across-size) (b .1) (f .moment .ensures) (e .rounded2 .ok) (e .rounded2 .ensures) i;
         by = entry (b .0 .sum-size) (b .0 .up-size) (b .2) (d .moment2 .ensures) (c .rounded3 .ok) (c .rounded3 .ensures) i;
       },
-      bound-equal (sym v) (rounded-bound (g .before .before .args .b .sum) (2 ^ 34) 524288 (lit< tt) (b .0 .sum-size)),
+      bound-equal (sym v) (rounded-bound (g .before .before .args .b .sum) (2 ^ 34) mostGathered (lit< tt) (b .0 .sum-size)),
     )
 
 pub affine-velocity-spec : {M : Type 1} → statement M

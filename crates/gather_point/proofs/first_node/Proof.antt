@@ -4,6 +4,7 @@ use Prim.Native.Nat.{ℕ, _+_, _-_, _*_, _/_, _≤_}
 use native.Mathlib.Nat.{mul-le-mul}
 use native.Mathlib.Omega.{arith}
 use borrow.Author.Needs.{needs}
+use Rattle.limits.specs.Limits.{mostSide, mostPosition}
 use Rattle.spline.specs.Spline.{nearestNode}
 use Rattle.gather_point.proofs.first_node.Statement.{statement}
 use Rattle.gather_point.proofs.first_node.Tie as tie
@@ -14,7 +15,7 @@ add-result c = search needs
 sub-result : tie.Need-sub-result
 sub-result c = search needs
 
-few : (nx y : ℕ) → nx ≤ 48 → y ≤ 4095 → ((y + 32) / 64 - 1) * nx ≤ 64 * 48
+few : (nx y : ℕ) → nx ≤ mostSide → y ≤ mostPosition → ((y + 32) / 64 - 1) * nx ≤ 64 * mostSide
 few nx y h k = mul-le-mul {n₂ = 64} (omega arith) h
 
 mul-result : tie.Need-mul-result

@@ -13,8 +13,8 @@ record Fit (sum tilt q : ℤ) : Type 0 where
   result : SFits w64 (pos 64 *ℤ tilt -ℤ q *ℤ sum)
   size : Bound (pos 64 *ℤ tilt -ℤ q *ℤ sum) 1152921504606846976
 
-fit : {sum tilt q : ℤ} → Bound sum 9007199254740992 → Bound tilt 9007199254740992 → Bound q 32 → Fit sum tilt q
-fit h k l =
+fit : {sum tilt q : ℤ} → Bound sum 9007199254740992 × Bound tilt 9007199254740992 × Bound q 32 → Fit sum tilt q
+fit (h, k, l) =
     record {
       rise = fits (search sizes depth 20) tt;
       share = fits (search sizes depth 20) tt;
@@ -23,16 +23,16 @@ fit h k l =
     }
 
 mul-result : tie.Need-mul-result
-mul-result c = let f = fit (c .pre .0) (c .pre .1) (c .pre .2) in search needs
+mul-result c = let f = fit (c .pre) in search needs
 
 mul-result-2 : tie.Need-mul-result-2
-mul-result-2 c = let f = fit (c .pre .0) (c .pre .1) (c .pre .2) in search needs
+mul-result-2 c = let f = fit (c .pre) in search needs
 
 sub-result : tie.Need-sub-result
-sub-result c = let f = fit (c .pre .0) (c .pre .1) (c .pre .2) in search needs
+sub-result c = let f = fit (c .pre) in search needs
 
 returns : tie.Need-returns
-returns c = let f = fit (c .pre .0) (c .pre .1) (c .pre .2) in search needs
+returns c = let f = fit (c .pre) in search needs
 
 pub moment-spec : {M : Type 1} → statement M
 moment-spec = tie.close (tie.spec mul-result mul-result-2 sub-result returns)

@@ -13,6 +13,7 @@ use Rattle.arith.specs.Size.{Bound, bound-widen}
 use Rattle.arith.specs.Machine.{read, read-bound}
 use Rattle.arith.specs.Lists.{each-at}
 use Rattle.arith.specs.Sums.{Each}
+use Rattle.limits.specs.Limits.{mostNodeVelocity}
 use Rattle.spline.specs.declared.AxisWeights.{AxisWeights}
 use Rattle.gather_point.specs.declared.Shares.{Shares}
 use Rattle.gather_point.specs.Point.{weighed, rowShares, SmallWeights, SmallShares}
@@ -21,16 +22,16 @@ use Rattle.gather_point.proofs.row_shares.Statement.{statement}
 use Rattle.gather_point.proofs.row_shares.Tie as tie
 
 record Sizes (u : List ℤ) (at : ℕ) : Type 0 where
-  first : Bound (getD u at (pos 0)) 131072
-  second : Bound (getD u (at + 1) (pos 0)) 131072
-  third : Bound (getD u (at + 2) (pos 0)) 131072
+  first : Bound (getD u at (pos 0)) mostNodeVelocity
+  second : Bound (getD u (at + 1) (pos 0)) mostNodeVelocity
+  third : Bound (getD u (at + 2) (pos 0)) mostNodeVelocity
 
-sizes-at : (u : List ℤ) (at : ℕ) → at + 2 < length u → Each (λ z. natAbs z ≤ 131072) u → Sizes u at
+sizes-at : (u : List ℤ) (at : ℕ) → at + 2 < length u → Each (λ z. natAbs z ≤ mostNodeVelocity) u → Sizes u at
 sizes-at u at h e =
     record {
-      first = record { size = each-at (λ z. natAbs z ≤ 131072) u at (pos 0) e (omega arith) };
-      second = record { size = each-at (λ z. natAbs z ≤ 131072) u (at + 1) (pos 0) e (omega arith) };
-      third = record { size = each-at (λ z. natAbs z ≤ 131072) u (at + 2) (pos 0) e (omega arith) };
+      first = record { size = each-at (λ z. natAbs z ≤ mostNodeVelocity) u at (pos 0) e (omega arith) };
+      second = record { size = each-at (λ z. natAbs z ≤ mostNodeVelocity) u (at + 1) (pos 0) e (omega arith) };
+      third = record { size = each-at (λ z. natAbs z ≤ mostNodeVelocity) u (at + 2) (pos 0) e (omega arith) };
     }
 
 row : (w : AxisWeights) {u : List ℤ} {at : ℕ} → SmallWeights w → Sizes u at → (r : Shares) → r ≡ weighed w (toZ w64 (ofZ w64 (getD u at (pos 0)))) (toZ w64 (ofZ w64 (getD u (at + 1) (pos 0)))) (toZ w64 (ofZ w64 (getD u (at + 2) (pos 0)))) → (r ≡ rowShares w u at) × SmallShares r

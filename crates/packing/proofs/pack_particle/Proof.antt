@@ -5,10 +5,11 @@ use Prim.Native.Nat.{_+_, _*_}
 use native.Mathlib.Omega.{arith}
 use borrow.Rule.Slice.PartMut.{mid-len}
 use denote.Ref.{now}
+use Rattle.arith.specs.Lists.{placed-back}
 use Rattle.particle.specs.Layout.{recordLength}
 use Rattle.particle.specs.Record.{recordOf, Valid}
+use Rattle.particle.proofs.RoundTrip.{record-length}
 use Rattle.particle.proofs.Valid.{valid-write}
-use Rattle.packing.proofs.Filling.{part-placed}
 use Rattle.packing.proofs.Sets.{named, named-at, named-valid}
 use Rattle.packing.proofs.pack_particle.Statement.{statement}
 use Rattle.packing.proofs.pack_particle.Tie as tie
@@ -50,9 +51,12 @@ same-length c = search needs
 
 returns : tie.Need-returns
 returns c p n e =
-    let a = c .before .before .before .before .before .before .before .before .args in
-    part-placed recordLength (a .k) (now (a .records))
-    (c .before .before .pack .ensures ∙ ap recordOf (c .before .before .before .before .particle-at .ensures p n (e ∙ ap (λ q. q .identifier) (sym (c .before .before .before .before .before .particle-in .ensures)))))
+    let packed = c .before .before in
+    let at = packed .before .before in
+    let old = at .before in
+    let s = old .before .before .before in
+    let same = e ∙ ap (λ q. q .identifier) (sym (old .particle-in .ensures)) in
+    placed-back (now (s .args .records)) (recordLength * s .args .k) recordLength (packed .pack .ensures ∙ ap recordOf (at .particle-at .ensures p n same)) (record-length p)
 
 pub pack-particle-spec : {M : Type 1} → statement M
 pack-particle-spec =

@@ -7,7 +7,7 @@ use borrow.Author.Tests.{not-true, not-false}
 use borrow.Author.Needs.{needs}
 use Rattle.spline.specs.Spline.{onAxis}
 use Rattle.refusal.specs.Refused.{result}
-use Rattle.particles.proofs.Admitted.{off-x, off-y, not-above, too-heavy, goes-on}
+use Rattle.particles.proofs.CheckedParticle.{off-x, off-y, not-above, too-heavy, goes-on}
 use Rattle.particles.proofs.check_particle.Statement.{statement}
 use Rattle.particles.proofs.check_particle.Tie as tie
 

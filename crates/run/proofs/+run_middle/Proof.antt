@@ -1,6 +1,6 @@
 -- `run::run_middle` meets its contract. Its call to itself is never made, since no middle set is so long; the measure is nothing.
 -- Assumes nothing.
-use mathlib.Core.Path.{_≡_, ap, _∙_}
+use mathlib.Core.Path.{ap, _∙_}
 use mathlib.Core.Logic.{⊎-elim}
 use Prim.Native.Nat.{ℕ, _*_, _/_, _<_, _≤_}
 use native.Mathlib.Omega.{arith}
@@ -16,7 +16,7 @@ use Rattle.run.proofs.Same.{Same, before, after}
 use Rattle.run.proofs.run_middle.Reads as run-middle
 use Rattle.run.proofs.run_middle.Kinds as run-middle-kinds
 use Rattle.run.proofs.+run_middle.Lts-run_middle as run-middle-lts
-use Rattle.run.proofs.run_part.Reads as run-part-reads
+use Rattle.run_set.proofs.run_set.Reads as run-set-reads
 use Rattle.run.proofs.+run_middle.{statement}
 use Rattle.run.proofs.+run_middle.Tie.{close}
 
@@ -36,8 +36,8 @@ room n h = omega arith
 same : (t : ℕ) (c : run-middle-lts.Joined1 (
   run-middle-below t,
   run-middle.Post,
-  run-part-reads.Asked,
-  run-part-reads.Learnt,
+  run-set-reads.Asked,
+  run-set-reads.Learnt,
 ) (run-middle-at t) run-middle.Post) → Same (c .if1 .records) (c .if1 .mass) (c .before .before .before .args .records .now) (c .before .before .before .args .mass .now) (c .if1 .px) (c .if1 .py) (c .before .before .before .args .px .now) (c .before .before .before .args .py .now)
 same t c =
     ⊎-elim (λ w. absurd (omega (arith, c .before .before .before .pre .1 .1, w .0 .taken)))
@@ -47,34 +47,34 @@ same t c =
 run-middle-run-middle-requires : (t : ℕ) → run-middle-lts.Need-run-middle-requires (
   run-middle-below t,
   run-middle.Post,
-  run-part-reads.Asked,
-  run-part-reads.Learnt,
+  run-set-reads.Asked,
+  run-set-reads.Learnt,
 ) (run-middle-at t) run-middle.Post
 run-middle-run-middle-requires t c κs = absurd (omega (arith, c .before .before .before .before .before .before .before .pre .1 .1, c .before .before .before .before .if1 .taken))
 
-run-middle-slice-aggregate-run-part : (t : ℕ) → run-middle-lts.Need-slice-aggregate-run-part (
+run-middle-slice-aggregate-run-set : (t : ℕ) → run-middle-lts.Need-slice-aggregate-run-set (
   run-middle-below t,
   run-middle.Post,
-  run-part-reads.Asked,
-  run-part-reads.Learnt,
+  run-set-reads.Asked,
+  run-set-reads.Learnt,
 ) (run-middle-at t) run-middle.Post
-run-middle-slice-aggregate-run-part t c = search needs
+run-middle-slice-aggregate-run-set t c = search needs
 
-run-middle-slice-aggregate-run-part-2 : (t : ℕ) → run-middle-lts.Need-slice-aggregate-run-part-2 (
+run-middle-slice-aggregate-run-set-2 : (t : ℕ) → run-middle-lts.Need-slice-aggregate-run-set-2 (
   run-middle-below t,
   run-middle.Post,
-  run-part-reads.Asked,
-  run-part-reads.Learnt,
+  run-set-reads.Asked,
+  run-set-reads.Learnt,
 ) (run-middle-at t) run-middle.Post
-run-middle-slice-aggregate-run-part-2 t c = search needs
+run-middle-slice-aggregate-run-set-2 t c = search needs
 
-run-middle-run-part-requires : (t : ℕ) → run-middle-lts.Need-run-part-requires (
+run-middle-run-set-requires : (t : ℕ) → run-middle-lts.Need-run-set-requires (
   run-middle-below t,
   run-middle.Post,
-  run-part-reads.Asked,
-  run-part-reads.Learnt,
+  run-set-reads.Asked,
+  run-set-reads.Learnt,
 ) (run-middle-at t) run-middle.Post
-run-middle-run-part-requires t c κs =
+run-middle-run-set-requires t c κs =
     let s = c .before .before .before .before .before .before .before .before .before in
     let small = room (length (s .args .records .now)) (s .pre .1 .1) in
     after (same t (c .before .before .before .before .before .before)) (λ r m x y. RunReady (s .args .settings) r m x y × (perParticle * recordCount r ≤ middle * perParticle) × (perParticle * recordCount r ≤ middle * perParticle))
@@ -83,43 +83,43 @@ run-middle-run-part-requires t c κs =
 run-middle-same-length : (t : ℕ) → run-middle-lts.Need-same-length (
   run-middle-below t,
   run-middle.Post,
-  run-part-reads.Asked,
-  run-part-reads.Learnt,
+  run-set-reads.Asked,
+  run-set-reads.Learnt,
 ) (run-middle-at t) run-middle.Post
-run-middle-same-length t c = c .before .before .before .before .before .before .before .before .run-part .kept .1 .1 .0 ∙ ap length (same t (c .before .before .before .before .before .before .before .before .before .before .before .before .before .before .before) .of-records)
+run-middle-same-length t c = c .before .before .before .before .before .before .before .before .run-set .kept .1 .1 .0 ∙ ap length (same t (c .before .before .before .before .before .before .before .before .before .before .before .before .before .before .before) .of-records)
 
 run-middle-same-length-2 : (t : ℕ) → run-middle-lts.Need-same-length-2 (
   run-middle-below t,
   run-middle.Post,
-  run-part-reads.Asked,
-  run-part-reads.Learnt,
+  run-set-reads.Asked,
+  run-set-reads.Learnt,
 ) (run-middle-at t) run-middle.Post
-run-middle-same-length-2 t c = c .before .before .before .before .before .before .before .before .run-part .kept .1 .1 .1 .0 ∙ ap length (same t (c .before .before .before .before .before .before .before .before .before .before .before .before .before .before .before) .of-mass)
+run-middle-same-length-2 t c = c .before .before .before .before .before .before .before .before .run-set .kept .1 .1 .1 .0 ∙ ap length (same t (c .before .before .before .before .before .before .before .before .before .before .before .before .before .before .before) .of-mass)
 
 run-middle-same-length-3 : (t : ℕ) → run-middle-lts.Need-same-length-3 (
   run-middle-below t,
   run-middle.Post,
-  run-part-reads.Asked,
-  run-part-reads.Learnt,
+  run-set-reads.Asked,
+  run-set-reads.Learnt,
 ) (run-middle-at t) run-middle.Post
-run-middle-same-length-3 t c = c .before .before .before .before .before .before .before .before .run-part .kept .1 .1 .1 .1 .0 ∙ ap length (same t (c .before .before .before .before .before .before .before .before .before .before .before .before .before .before .before) .of-px)
+run-middle-same-length-3 t c = c .before .before .before .before .before .before .before .before .run-set .kept .1 .1 .1 .1 .0 ∙ ap length (same t (c .before .before .before .before .before .before .before .before .before .before .before .before .before .before .before) .of-px)
 
 run-middle-same-length-4 : (t : ℕ) → run-middle-lts.Need-same-length-4 (
   run-middle-below t,
   run-middle.Post,
-  run-part-reads.Asked,
-  run-part-reads.Learnt,
+  run-set-reads.Asked,
+  run-set-reads.Learnt,
 ) (run-middle-at t) run-middle.Post
-run-middle-same-length-4 t c = c .before .before .before .before .before .before .before .before .run-part .kept .1 .1 .1 .1 .1 .0 ∙ ap length (same t (c .before .before .before .before .before .before .before .before .before .before .before .before .before .before .before) .of-py)
+run-middle-same-length-4 t c = c .before .before .before .before .before .before .before .before .run-set .kept .1 .1 .1 .1 .1 .0 ∙ ap length (same t (c .before .before .before .before .before .before .before .before .before .before .before .before .before .before .before) .of-py)
 
 run-middle-returns : (t : ℕ) → run-middle-lts.Need-returns (
   run-middle-below t,
   run-middle.Post,
-  run-part-reads.Asked,
-  run-part-reads.Learnt,
+  run-set-reads.Asked,
+  run-set-reads.Learnt,
 ) (run-middle-at t) run-middle.Post
 run-middle-returns t c =
-    let p = c .before .before .before .before .before .before .before .before .run-part in
+    let p = c .before .before .before .before .before .before .before .before .run-set in
     let a = c .before .before .before .before .before .before .before .before .before .before .before .before .before .before .before .before .before .before .args in
     before (same t (c .before .before .before .before .before .before .before .before .before .before .before .before .before .before .before)) (λ r m x y. Runs (a .settings) (a .steps) r m x y (p .result) (p .last .1 .1 .0) (p .last .1 .1 .1 .0) (p .last .1 .1 .1 .1 .0) (p .last .1 .1 .1 .1 .1 .0)) (p .ensures)
 
@@ -127,15 +127,15 @@ pub +run-middle-spec : {M : Type 1} → statement M
 +run-middle-spec = close μ-run-middle λ t. run-middle-lts.spec (
   run-middle-below t,
   run-middle.Post,
-  run-part-reads.Asked,
-  run-part-reads.Learnt,
+  run-set-reads.Asked,
+  run-set-reads.Learnt,
 )
     (run-middle-at t)
     run-middle.Post
     (run-middle-run-middle-requires t)
-    (run-middle-slice-aggregate-run-part t)
-    (run-middle-slice-aggregate-run-part-2 t)
-    (run-middle-run-part-requires t)
+    (run-middle-slice-aggregate-run-set t)
+    (run-middle-slice-aggregate-run-set-2 t)
+    (run-middle-run-set-requires t)
     (run-middle-same-length t)
     (run-middle-same-length-2 t)
     (run-middle-same-length-3 t)

@@ -1,29 +1,46 @@
 -- `scatter::scatter_parts` meets its contract. The loop's invariant: the particles of the first k records are added. The measure
 -- is what is left of them. Assumes nothing.
 use mathlib.Core.Path.{_≡_, sym, ap, _∙_}
-use Prim.Native.Nat.{_+_, _-_, _*_, _/_}
+use mathlib.Core.List.{List}
+use Prim.Native.Nat.{ℕ, _+_, _-_, _*_, _/_}
 use native.Mathlib.Omega.{arith}
 use borrow.Author.Needs.{needs}
 use lib.ListN.{length}
 use lib.Seq.{length-take-le, length-front}
+use lib.IntN.{ℤ}
 use Rattle.spline.specs.Kernel.{weightIn}
 use Rattle.particle.specs.Layout.{recordLength}
 use Rattle.unpacked.specs.Unpacked.{perParticle}
-use Rattle.packing.proofs.Parts.{count-part}
+use Rattle.unpacking.proofs.Parts.{count-part}
 use Rattle.transfer.specs.Internal.{part}
 use Rattle.transfer.proofs.Parts.{part-bytes, rest-bytes, rest-inside, rest-all}
 use Rattle.transfer.proofs.Scatters.{SoFar, begin, part-ready, turn, finish, held-so-far}
 use Rattle.scatter.proofs.scatter_parts.Statement.{statement}
 use Rattle.scatter.proofs.scatter_parts.Tie as tie
 
+-- the particles of the first k records are added, and the array has its room
+record Looped (w : ℕ → ℕ → ℤ) (d nx ny : ℕ) (records mass₀ : List ℕ) (px₀ py₀ array : List ℤ) (mass : List ℕ) (px py : List ℤ) (k : ℕ) : Type 0 where
+  added : SoFar w d nx ny records mass₀ px₀ py₀ mass px py k
+  room : length array ≡ part * perParticle
+
 abbrev Inv-loop : tie.InvT-loop
-Inv-loop nx ny records array₀ table d mass₀ px₀ py₀ count k₀ array mass px py k = SoFar (weightIn table) d nx ny records mass₀ px₀ py₀ mass px py k × (length array ≡ part * perParticle)
+Inv-loop nx ny records array₀ table d mass₀ px₀ py₀ count k₀ array mass px py k = Looped (weightIn table) d nx ny records mass₀ px₀ py₀ array mass px py k
 
 abbrev μ-loop : tie.MeasureT-loop
 μ-loop nx ny records array₀ table d mass₀ px₀ py₀ count k₀ array mass px py k = count - k
 
+-- back from a part to the loop, from the last part to it, and to the start
+abbrev looped : tie.After-scatter-part Inv-loop μ-loop → tie.At-loop Inv-loop μ-loop
+looped r = r .before .before .before .before .before .before .before
+
+abbrev left : tie.After-scatter-part2 Inv-loop μ-loop → tie.At-loop Inv-loop μ-loop
+left r = r .before .before .before .before .before .before .before
+
+abbrev begun : tie.At-loop Inv-loop μ-loop → tie.Start Inv-loop μ-loop
+begun l = l .before .before .before
+
 loop-holds : tie.Need-loop-holds Inv-loop μ-loop
-loop-holds c = (begin (c .before .before .pre .0), c .before .before .pre .2)
+loop-holds c = record { added = begin (c .before .before .pre .ready); room = c .before .before .pre .room }
 
 add-loop : tie.Need-add-loop Inv-loop μ-loop
 add-loop c = search needs
@@ -46,11 +63,11 @@ part-scatter-part-end c = search needs
 scatter-part-requires : tie.Need-scatter-part-requires Inv-loop μ-loop
 scatter-part-requires c κs =
     let l = c .before .before .before .before .before .before in
-    let s = l .before .before .before in
+    let s = begun l in
     let k = l .loop .k in
-    let bytes = part-bytes k in
+    let m = recordLength * k + part * recordLength - recordLength * k in
     let inside = c .before .before .before .before .before .loop-test .taken in
-    (part-ready (s .pre .0) (l .loop .inv .0) part (recordLength * k + part * recordLength - recordLength * k) bytes inside, l .loop .inv .1 ∙ sym (ap (λ n. perParticle * n) (count-part (s .args .records .now) k part (recordLength * k + part * recordLength - recordLength * k) bytes inside)))
+    (part-ready (s .pre .ready) (l .loop .inv .added) part m (part-bytes k) inside, l .loop .inv .room ∙ sym (ap (λ n. perParticle * n) (count-part (s .args .records .now) k part m (part-bytes k) inside)))
 
 add-k : tie.Need-add-k Inv-loop μ-loop
 add-k c = search needs
@@ -61,9 +78,13 @@ loop-less c = search needs
 loop-again : tie.Need-loop-again Inv-loop μ-loop
 loop-again c =
     let r = c .before .before .before .before .before in
-    let l = r .before .before .before .before .before .before .before in
+    let l = looped r in
     let k = l .loop .k in
-    (turn (l .before .before .before .pre .0) (l .loop .inv .0) part (recordLength * k + part * recordLength - recordLength * k) (part-bytes k) (r .before .before .before .before .before .before .loop-test .taken) (r .scatter-part .ensures), r .scatter-part .kept .1 .1 .1 .0 ∙ l .loop .inv .1)
+    let m = recordLength * k + part * recordLength - recordLength * k in
+    record {
+      added = turn (begun l .pre .ready) (l .loop .inv .added) part m (part-bytes k) (r .before .before .before .before .before .before .loop-test .taken) (r .scatter-part .ensures);
+      room = r .scatter-part .kept .1 .1 .1 .0 ∙ l .loop .inv .room;
+    }
 
 sub-size : tie.Need-sub-size Inv-loop μ-loop
 sub-size c = search needs
@@ -89,54 +110,61 @@ slice-relend-prefix-scatter-part c = search needs
 slice-aggregate-scatter-part : tie.Need-slice-aggregate-scatter-part Inv-loop μ-loop
 slice-aggregate-scatter-part c =
     let l = c .before .before .before in
-    sym (length-take-le (perParticle * (length (l .before .before .before .args .records .now) / recordLength - l .loop .k)) (l .loop .array) (omega arith))
+    sym (length-take-le (perParticle * (length (begun l .args .records .now) / recordLength - l .loop .k)) (l .loop .array) (omega arith))
 
 scatter-part-requires-2 : tie.Need-scatter-part-requires-2 Inv-loop μ-loop
 scatter-part-requires-2 c κs =
     let l = c .before .before .before .before .before .before in
-    let s = l .before .before .before in
+    let s = begun l in
     let k = l .loop .k in
     let records = s .args .records .now in
     let n = length records / recordLength - k in
     let m = length records - recordLength * k in
-    let bytes = rest-bytes (length records) k (s .pre .1) in
-    let inside = rest-inside (length records / recordLength) k (l .loop .inv .0 .within) in
-    (part-ready (s .pre .0) (l .loop .inv .0) n m bytes inside, length-take-le (perParticle * n) (l .loop .array) (omega arith) ∙ sym (ap (λ i. perParticle * i) (count-part records k n m bytes inside)))
+    let bytes = rest-bytes (length records) k (s .pre .whole) in
+    let inside = rest-inside (length records / recordLength) k (l .loop .inv .added .within) in
+    (part-ready (s .pre .ready) (l .loop .inv .added) n m bytes inside, length-take-le (perParticle * n) (l .loop .array) (omega arith) ∙ sym (ap (λ i. perParticle * i) (count-part records k n m bytes inside)))
 
 same-length : tie.Need-same-length Inv-loop μ-loop
 same-length c =
     let r = c .before .before .before .before .before in
-    let l = r .before .before .before .before .before .before .before in
-    length-front (l .loop .array) (r .scatter-part2 .last .1 .1 .1 .0) (perParticle * (length (l .before .before .before .args .records .now) / recordLength - l .loop .k)) (r .scatter-part2 .kept .1 .1 .1 .0) ∙ l .loop .inv .1 ∙ sym (l .before .before .before .pre .2)
+    let l = left r in
+    let s = begun l in
+    length-front (l .loop .array) (r .scatter-part2 .last .1 .1 .1 .0) (perParticle * (length (s .args .records .now) / recordLength - l .loop .k)) (r .scatter-part2 .kept .1 .1 .1 .0)
+    ∙ l .loop .inv .room
+    ∙ sym (s .pre .room)
 
 same-length-2 : tie.Need-same-length-2 Inv-loop μ-loop
 same-length-2 c =
     let r = c .before .before .before .before .before in
-    let l = r .before .before .before .before .before .before .before in
-    r .scatter-part2 .kept .1 .1 .1 .1 .1 .1 .0 ∙ held-so-far (l .before .before .before .pre .0) (l .loop .inv .0) .mass-long ∙ sym (l .before .before .before .pre .0 .cleared .mass-long)
+    let l = left r in
+    let ready = begun l .pre .ready in
+    r .scatter-part2 .kept .1 .1 .1 .1 .1 .1 .0 ∙ held-so-far ready (l .loop .inv .added) .mass-long ∙ sym (ready .cleared .mass-long)
 
 same-length-3 : tie.Need-same-length-3 Inv-loop μ-loop
 same-length-3 c =
     let r = c .before .before .before .before .before in
-    let l = r .before .before .before .before .before .before .before in
-    r .scatter-part2 .kept .1 .1 .1 .1 .1 .1 .1 .0 ∙ held-so-far (l .before .before .before .pre .0) (l .loop .inv .0) .px-long ∙ sym (l .before .before .before .pre .0 .cleared .px-long)
+    let l = left r in
+    let ready = begun l .pre .ready in
+    r .scatter-part2 .kept .1 .1 .1 .1 .1 .1 .1 .0 ∙ held-so-far ready (l .loop .inv .added) .px-long ∙ sym (ready .cleared .px-long)
 
 same-length-4 : tie.Need-same-length-4 Inv-loop μ-loop
 same-length-4 c =
     let r = c .before .before .before .before .before in
-    let l = r .before .before .before .before .before .before .before in
-    r .scatter-part2 .kept .1 .1 .1 .1 .1 .1 .1 .1 .0 ∙ held-so-far (l .before .before .before .pre .0) (l .loop .inv .0) .py-long ∙ sym (l .before .before .before .pre .0 .cleared .py-long)
+    let l = left r in
+    let ready = begun l .pre .ready in
+    r .scatter-part2 .kept .1 .1 .1 .1 .1 .1 .1 .1 .0 ∙ held-so-far ready (l .loop .inv .added) .py-long ∙ sym (ready .cleared .py-long)
 
 returns : tie.Need-returns Inv-loop μ-loop
 returns c =
     let r = c .before .before .before .before .before in
-    let l = r .before .before .before .before .before .before .before in
-    let s = l .before .before .before in
+    let l = left r in
+    let s = begun l in
     let k = l .loop .k in
-    let records = s .args .records .now in
-    let n = length records / recordLength - k in
-    let inside = rest-inside (length records / recordLength) k (l .loop .inv .0 .within) in
-    finish (s .pre .0) (turn (s .pre .0) (l .loop .inv .0) n (length records - recordLength * k) (rest-bytes (length records) k (s .pre .1)) inside (r .scatter-part2 .ensures)) (rest-all (length records / recordLength) k)
+    let n = length (s .args .records .now) in
+    let inside = rest-inside (n / recordLength) k (l .loop .inv .added .within) in
+    finish (s .pre .ready)
+    (turn (s .pre .ready) (l .loop .inv .added) (n / recordLength - k) (n - recordLength * k) (rest-bytes n k (s .pre .whole)) inside (r .scatter-part2 .ensures))
+    (rest-all (n / recordLength) k)
 
 pub scatter-parts-spec : {M : Type 1} → statement M
 scatter-parts-spec =

@@ -9,6 +9,19 @@ use Rattle.transfer.proofs.Scatters.{add-ready, built-in-scattered}
 use Rattle.scatter.proofs.scatter_set.Statement.{statement}
 use Rattle.scatter.proofs.scatter_set.Tie as tie
 
+-- back from clearing py to px, to the masses, to the table and to the start
+abbrev px-cleared : tie.After-clear2 → tie.After-clear
+px-cleared y = y .before .before .before
+
+abbrev masses-cleared : tie.After-clear → tie.After-clear-masses
+masses-cleared x = x .before .before .before .before
+
+abbrev tabled : tie.After-clear-masses → tie.After-weight-table
+tabled m = m .before .before
+
+abbrev begun : tie.After-weight-table → tie.Start
+begun t = t .before .before .before
+
 -- the table and D are the spline's
 lent : (c : tie.After-weight-table) → BuiltIn (c .weight-table .result) D
 lent c = record { table-is = c .weight-table .ensures; D-is = refl }
@@ -30,11 +43,16 @@ slice-aggregate-scatter-parts c = search needs
 
 scatter-parts-requires : tie.Need-scatter-parts-requires
 scatter-parts-requires c κs =
-    let s = c .before .before .before .before .before .before .before .before .before .before .before .before .before .before .before .before .before .before in (
-      add-ready (s .pre) (lent (c .before .before .before .before .before .before .before .before .before .before .before .before .before .before .before)) (c .before .before .before .before .before .before .before .before .before .before .before .before .before .clear-masses .ensures) (c .before .before .before .before .before .before .before .before .before .clear .ensures) (c .before .before .before .before .before .before .clear2 .ensures),
-      whole-records (s .args .nx) (s .args .ny) (s .args .records .now) (s .pre .set),
-      search needs,
-    )
+    let y = c .before .before .before .before .before .before in
+    let x = px-cleared y in
+    let m = masses-cleared x in
+    let t = tabled m in
+    let s = begun t in
+    record {
+      ready = add-ready (s .pre) (lent t) (m .clear-masses .ensures) (x .clear .ensures) (y .clear2 .ensures);
+      whole = whole-records (s .args .nx) (s .args .ny) (s .args .records .now) (s .pre .set);
+      room = search needs;
+    }
 
 same-length : tie.Need-same-length
 same-length c = search needs
@@ -47,9 +65,14 @@ same-length-3 c = search needs
 
 returns : tie.Need-returns
 returns c =
-    let a = c .before .before .before .before .before .before .before .before .before .before .before .before .before .before .before .before .before .before .before .before .before .before .before .before .args in
-    built-in-scattered (lent (c .before .before .before .before .before .before .before .before .before .before .before .before .before .before .before .before .before .before .before .before .before))
-    (scattered (a .mass .now) (a .px .now) (a .py .now) (c .before .before .before .before .before .before .before .before .before .before .before .before .before .before .before .before .before .before .before .clear-masses .ensures) (c .before .before .before .before .before .before .before .before .before .before .before .before .before .before .before .clear .ensures) (c .before .before .before .before .before .before .before .before .before .before .before .before .clear2 .ensures) (c .before .before .before .before .before .scatter-parts .ensures))
+    let added = c .before .before .before .before .before in
+    let y = added .before .before .before .before .before .before .before in
+    let x = px-cleared y in
+    let m = masses-cleared x in
+    let t = tabled m in
+    let a = begun t .args in
+    built-in-scattered (lent t)
+    (scattered (a .mass .now) (a .px .now) (a .py .now) (m .clear-masses .ensures) (x .clear .ensures) (y .clear2 .ensures) (added .scatter-parts .ensures))
 
 pub scatter-set-spec : {M : Type 1} → statement M
 scatter-set-spec =

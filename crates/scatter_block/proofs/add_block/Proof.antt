@@ -4,6 +4,19 @@ use Rattle.scatter_block.proofs.Block.{x-speeds, y-speeds, ask-1, ask-2
 use Rattle.scatter_block.proofs.add_block.Statement.{statement}
 use Rattle.scatter_block.proofs.add_block.Tie as tie
 
+-- back from line to line, to the products and to the start
+abbrev second : tie.After-add-line3 → tie.After-add-line2
+second l = l .before .before .before .before .before .before .before .before
+
+abbrev first : tie.After-add-line2 → tie.After-add-line
+first l = l .before .before .before .before .before .before .before .before
+
+abbrev products : tie.After-add-line → tie.After-times3
+products l = l .before .before .before .before
+
+abbrev begun : tie.After-times3 → tie.Start
+begun t = t .before .before .before .before
+
 times-requires : tie.Need-times-requires
 times-requires c κs = search needs
 
@@ -17,30 +30,37 @@ sub-add-line : tie.Need-sub-add-line
 sub-add-line c = search needs
 
 sub-add-line-2 : tie.Need-sub-add-line-2
-sub-add-line-2 c = x-speeds (c .before .before .before .before .before .before .before .pre) .less-fits
+sub-add-line-2 c = x-speeds (begun (c .before .before .before) .pre) .less-fits
 
 sub-add-line-3 : tie.Need-sub-add-line-3
-sub-add-line-3 c = y-speeds (c .before .before .before .before .before .before .before .pre) .less-fits
+sub-add-line-3 c = y-speeds (begun (c .before .before .before) .pre) .less-fits
 
 add-line-requires : tie.Need-add-line-requires
-add-line-requires c κs = ask-1 (c .before .before .before .before .before .before .before .pre) (c .before .before .before .before .before .times .ensures) (c .before .before .before .before .times2 .ensures) (c .before .before .before .times3 .ensures)
+add-line-requires c κs =
+    let t = c .before .before .before in
+    ask-1 (begun t .pre) (t .before .before .times .ensures) (t .before .times2 .ensures) (t .times3 .ensures)
 
 add-line-requires-2 : tie.Need-add-line-requires-2
 add-line-requires-2 c κs =
-    ask-2 (c .before .before .before .before .before .before .before .before .before .before .before .before .before .before .before .pre) (c .before .before .before .before .before .before .before .before .before .before .before .before .before .times .ensures) (c .before .before .before .before .before .before .before .before .before .before .before .before .times2 .ensures) (c .before .before .before .before .before .before .before .before .before .before .before .times3 .ensures) (c .before .before .before .before .before .before .before .add-line .ensures)
+    let l = c .before .before .before .before .before .before .before in
+    let t = products l in
+    ask-2 (begun t .pre) (t .before .before .times .ensures) (t .before .times2 .ensures) (t .times3 .ensures) (l .add-line .ensures)
 
 add-add-line : tie.Need-add-add-line
 add-add-line c = search needs
 
 add-add-line-2 : tie.Need-add-add-line-2
-add-add-line-2 c = x-speeds (c .before .before .before .before .before .before .before .before .before .before .before .before .before .before .before .before .before .before .before .before .before .before .before .pre) .more-fits
+add-add-line-2 c = x-speeds (begun (products (first (c .before .before .before .before .before .before .before))) .pre) .more-fits
 
 add-add-line-3 : tie.Need-add-add-line-3
-add-add-line-3 c = y-speeds (c .before .before .before .before .before .before .before .before .before .before .before .before .before .before .before .before .before .before .before .before .before .before .before .pre) .more-fits
+add-add-line-3 c = y-speeds (begun (products (first (c .before .before .before .before .before .before .before))) .pre) .more-fits
 
 add-line-requires-3 : tie.Need-add-line-requires-3
 add-line-requires-3 c κs =
-    ask-3 (c .before .before .before .before .before .before .before .before .before .before .before .before .before .before .before .before .before .before .before .before .before .before .before .pre) (c .before .before .before .before .before .before .before .before .before .before .before .before .before .before .before .before .before .before .before .before .before .times .ensures) (c .before .before .before .before .before .before .before .before .before .before .before .before .before .before .before .before .before .before .before .before .times2 .ensures) (c .before .before .before .before .before .before .before .before .before .before .before .before .before .before .before .before .before .before .before .times3 .ensures) (c .before .before .before .before .before .before .before .before .before .before .before .before .before .before .before .add-line .ensures) (c .before .before .before .before .before .before .before .add-line2 .ensures)
+    let m = c .before .before .before .before .before .before .before in
+    let l = first m in
+    let t = products l in
+    ask-3 (begun t .pre) (t .before .before .times .ensures) (t .before .times2 .ensures) (t .times3 .ensures) (l .add-line .ensures) (m .add-line2 .ensures)
 
 same-length : tie.Need-same-length
 same-length c = search needs
@@ -53,7 +73,11 @@ same-length-3 c = search needs
 
 returns : tie.Need-returns
 returns c =
-    block-added (c .before .before .before .before .before .before .before .before .before .before .before .before .before .before .before .before .before .before .before .before .before .before .before .before .before .before .before .before .pre) (c .before .before .before .before .before .before .before .before .before .before .before .before .before .before .before .before .before .before .before .before .before .before .before .before .before .before .times .ensures) (c .before .before .before .before .before .before .before .before .before .before .before .before .before .before .before .before .before .before .before .before .before .before .before .before .before .times2 .ensures) (c .before .before .before .before .before .before .before .before .before .before .before .before .before .before .before .before .before .before .before .before .before .before .before .before .times3 .ensures) (c .before .before .before .before .before .before .before .before .before .before .before .before .before .before .before .before .before .before .before .before .add-line .ensures) (c .before .before .before .before .before .before .before .before .before .before .before .before .add-line2 .ensures) (c .before .before .before .before .add-line3 .ensures)
+    let u = c .before .before .before .before in
+    let m = second u in
+    let l = first m in
+    let t = products l in
+    block-added (begun t .pre) (t .before .before .times .ensures) (t .before .times2 .ensures) (t .times3 .ensures) (l .add-line .ensures) (m .add-line2 .ensures) (u .add-line3 .ensures)
 
 pub add-block-spec : {M : Type 1} → statement M
 add-block-spec =

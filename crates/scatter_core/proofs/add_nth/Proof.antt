@@ -13,18 +13,46 @@ use Rattle.scatter_core.proofs.add_nth.Tie as tie
 some : (c : tie.Start) → ParticleAt (c .args .nx) (c .args .ny) (c .args .particles .now) (c .args .k)
 some c = some-at (c .pre .set) (c .args .k) (c .pre .below)
 
-all-read : (c : tie.After-number-at6) → Read (c .before .before .before .before .before .before .before .before .before .before .args .particles .now) (c .before .before .before .before .before .before .before .before .before .before .args .k) (c .before .before .before .before .before .before .before .before .natural-at .result) (c .before .before .before .before .before .before .before .natural-at2 .result) (c .before .before .before .before .before .before .natural-at3 .result) (toZ w64 (ofZ w64 (c .before .before .before .before .before .number-at .result))) (toZ w64 (ofZ w64 (c .before .before .before .before .number-at2 .result))) (toZ w64 (ofZ w64 (c .before .before .before .number-at3 .result))) (toZ w64 (ofZ w64 (c .before .before .number-at4 .result))) (toZ w64 (ofZ w64 (c .before .number-at5 .result))) (toZ w64 (ofZ w64 (c .number-at6 .result)))
-all-read c =
+abbrev begun : tie.After-number-at6 → tie.Start
+begun yy = yy .before .before .before .before .before .before .before .before .before .before
+
+-- the nine numbers, read from the last back to the first
+abbrev AllRead : tie.After-number-at6 → Type 0
+AllRead yy =
+    let yx = yy .before in
+    let xy = yx .before in
+    let xx = xy .before in
+    let vy = xx .before in
+    let vx = vy .before in
+    let y = vx .before in
+    let x = y .before in
+    let m = x .before in
+    let a = begun yy .args in
+    Read (a .particles .now) (a .k) (m .natural-at .result) (x .natural-at2 .result) (y .natural-at3 .result)
+    (toZ w64 (ofZ w64 (vx .number-at .result))) (toZ w64 (ofZ w64 (vy .number-at2 .result)))
+    (toZ w64 (ofZ w64 (xx .number-at3 .result))) (toZ w64 (ofZ w64 (xy .number-at4 .result)))
+    (toZ w64 (ofZ w64 (yx .number-at5 .result))) (toZ w64 (ofZ w64 (yy .number-at6 .result)))
+
+all-read : (c : tie.After-number-at6) → AllRead c
+all-read yy =
+    let yx = yy .before in
+    let xy = yx .before in
+    let xx = xy .before in
+    let vy = xx .before in
+    let vx = vy .before in
+    let y = vx .before in
+    let x = y .before in
+    let m = x .before in
     record {
-      of-m = c .before .before .before .before .before .before .before .before .natural-at .ensures;
-      of-x = c .before .before .before .before .before .before .before .natural-at2 .ensures;
-      of-y = c .before .before .before .before .before .before .natural-at3 .ensures;
-      of-vx = read-result w64 (c .before .before .before .before .before .number-at .ok) (c .before .before .before .before .before .number-at .ensures);
-      of-vy = read-result w64 (c .before .before .before .before .number-at2 .ok) (c .before .before .before .before .number-at2 .ensures);
-      of-bxx = read-result w64 (c .before .before .before .number-at3 .ok) (c .before .before .before .number-at3 .ensures);
-      of-bxy = read-result w64 (c .before .before .number-at4 .ok) (c .before .before .number-at4 .ensures);
-      of-byx = read-result w64 (c .before .number-at5 .ok) (c .before .number-at5 .ensures);
-      of-byy = read-result w64 (c .number-at6 .ok) (c .number-at6 .ensures);
+      of-m = m .natural-at .ensures;
+      of-x = x .natural-at2 .ensures;
+      of-y = y .natural-at3 .ensures;
+      of-vx = read-result w64 (vx .number-at .ok) (vx .number-at .ensures);
+      of-vy = read-result w64 (vy .number-at2 .ok) (vy .number-at2 .ensures);
+      of-bxx = read-result w64 (xx .number-at3 .ok) (xx .number-at3 .ensures);
+      of-bxy = read-result w64 (xy .number-at4 .ok) (xy .number-at4 .ensures);
+      of-byx = read-result w64 (yx .number-at5 .ok) (yx .number-at5 .ensures);
+      of-byy = read-result w64 (yy .number-at6 .ok) (yy .number-at6 .ensures);
     }
 
 mul-at : tie.Need-mul-at
@@ -91,7 +119,10 @@ number-at-requires-6 : tie.Need-number-at-requires-6
 number-at-requires-6 c κs = search needs
 
 add-particle-requires : tie.Need-add-particle-requires
-add-particle-requires c κs = nth-asked (all-read (c .before .before .before)) (some (c .before .before .before .before .before .before .before .before .before .before .before .before .before) .holds) (c .before .before .before .before .before .before .before .before .before .before .before .before .before .pre)
+add-particle-requires c κs =
+    let numbers = c .before .before .before in
+    let s = begun numbers in
+    nth-asked (all-read numbers) (some s .holds) (s .pre)
 
 same-length : tie.Need-same-length
 same-length c = search needs
@@ -103,7 +134,9 @@ same-length-3 : tie.Need-same-length-3
 same-length-3 c = search needs
 
 returns : tie.Need-returns
-returns c p h = nth-added (all-read (c .before .before .before .before .before .before .before .before)) h (c .before .before .before .before .add-particle .ensures)
+returns c p h =
+    let added = c .before .before .before .before in
+    nth-added (all-read (added .before .before .before .before)) h (added .add-particle .ensures)
 
 pub add-nth-spec : {M : Type 1} → statement M
 add-nth-spec =

@@ -3,15 +3,16 @@
 use Prim.Native.Nat.{_≤_}
 use native.Mathlib.Omega.{arith}
 use borrow.Author.Needs.{needs}
+use Rattle.limits.specs.Limits.{mostPosition}
 use Rattle.spline.specs.Spline.{nearestNode}
 use Rattle.scatter_particle.proofs.Particles.{axis-small, x-touched, y-touched, cell-below, block-ready, particle-added}
 use Rattle.scatter_particle.proofs.add_particle.Statement.{statement}
 use Rattle.scatter_particle.proofs.add_particle.Tie as tie
 
-x-small : (c : tie.Start) → c .args .x ≤ 4095
+x-small : (c : tie.Start) → c .args .x ≤ mostPosition
 x-small c = axis-small (c .args .nx) (c .args .x) (c .pre .sizes .x-most) (c .pre .limits .x-on)
 
-y-small : (c : tie.Start) → c .args .y ≤ 4095
+y-small : (c : tie.Start) → c .args .y ≤ mostPosition
 y-small c = axis-small (c .args .ny) (c .args .y) (c .pre .sizes .y-most) (c .pre .limits .y-on)
 
 weights-at-requires : tie.Need-weights-at-requires

@@ -3,7 +3,7 @@ use mathlib.Core.Path.{_≡_, sym, ap, _∙_, subst}
 use Prim.Native.Nat.{_+_}
 use borrow.Author.Needs.{needs}
 use Rattle.totals.specs.Walk.{plus, share, Small}
-use Rattle.totals.proofs.Admitted.{admits, refuses, small-fits, small-plus}
+use Rattle.totals.proofs.CheckedParticle.{particle-passes, refuses, small-fits, small-plus}
 use Rattle.totals.proofs.next_particle.Statement.{statement}
 use Rattle.totals.proofs.next_particle.Tie as tie
 
@@ -28,7 +28,7 @@ enum-known-refusal c = search needs
 
 returns : tie.Need-returns
 returns c = (
-  admits (c .before .before .before .before .before .before .before .args .nx) (c .before .before .before .before .before .before .before .args .ny) (c .before .before .before .before .before .before .before .args .k) (c .before .before .before .before .before .before .before .args .progress) (c .before .before .before .before .before .before .before .args .p) (c .before .before .before .before .before .check-particle .result) (c .before .before .before .before .before .check-particle .ensures) (c .before .before .before .next .given .1) (totals-are c),
+  particle-passes (c .before .before .before .before .before .before .before .args .nx) (c .before .before .before .before .before .before .before .args .ny) (c .before .before .before .before .before .before .before .args .k) (c .before .before .before .before .before .before .before .args .progress) (c .before .before .before .before .before .before .before .args .p) (c .before .before .before .before .before .check-particle .result) (c .before .before .before .before .before .check-particle .ensures) (c .before .before .before .next .given .1) (totals-are c),
   subst (Small (c .before .before .before .before .before .before .before .args .k + 1)) (sym (totals-are c)) (small-plus (c .before .before .before .before .before .before .before .args .k) 1 (c .before .before .before .before .before .before .before .pre .2) (rw (c .before .share-of .ensures .0) at (c .before .share-of .ensures .1))),
 )
 

@@ -8,6 +8,8 @@ use mir.Val.{SFits, toZ, ofZ, hbits}
 use mir.Facts.{toZ-ofZ}
 use borrow.Author.Needs.{needs, sfits-of}
 use Rattle.arith.specs.Machine.{fits₂, result₂}
+use Rattle.totals.specs.declared.Totals.{Totals}
+use Rattle.totals.proofs.Fields.{Typed, typed}
 use Rattle.totals.proofs.plus_of.Statement.{statement}
 use Rattle.totals.proofs.plus_of.Tie as tie
 
@@ -25,30 +27,62 @@ module _ (a b : ℤ) (ha : mag a < 2 ^ hbits w64) (hb : mag b < 2 ^ hbits w64) (
   sum-is : toZ w64 (ofZ w64 (toZ w64 (ofZ w64 a) +ℤ toZ w64 (ofZ w64 b))) ≡ a +ℤ b
   sum-is = result₂ _+ℤ_ a-is b-is f
 
+-- ---- the totals, once both are known to be as their type has them
+
+abbrev start : tie.After-struct-told2 → tie.Start
+start c = c .before .before .before .before .before .before
+
+abbrev s : tie.After-struct-told2 → Totals
+s c = start c .args .s
+
+abbrev t : tie.After-struct-told2 → Totals
+t c = start c .args .t
+
+s-is : (c : tie.After-struct-told2) → Typed (s c)
+s-is c = typed (s c) (c .before .before .struct-told .given)
+
+t-is : (c : tie.After-struct-told2) → Typed (t c)
+t-is c = typed (t c) (c .struct-told2 .given)
+
+-- ---- back to there
+
+abbrev from-py : tie.After-struct-told4 → tie.After-struct-told2
+from-py c = c .before .before .before .before
+
+abbrev from-spin : tie.After-struct-told6 → tie.After-struct-told2
+from-spin c = from-py (c .before .before .before .before)
+
+abbrev from-motion : tie.After-struct-told8 → tie.After-struct-told2
+from-motion c = from-spin (c .before .before .before .before)
+
 add-t3 : tie.Need-add-t3
 add-t3 c = search needs
 
 add-t4 : tie.Need-add-t4
-add-t4 c = search needs
+add-t4 c = sum-fits (s c .px) (t c .px) (s-is c .px) (t-is c .px) (start c .pre .px)
 
 add-t5 : tie.Need-add-t5
-add-t5 c = search needs
+add-t5 c = let d = from-py c in sum-fits (s d .py) (t d .py) (s-is d .py) (t-is d .py) (start d .pre .py)
 
 add-t6 : tie.Need-add-t6
-add-t6 c = sum-fits (c .before .before .before .before .before .before .before .before .before .before .before .before .before .before .args .s .spin) (c .before .before .before .before .before .before .before .before .before .before .before .before .before .before .args .t .spin) (c .before .before .before .before .before .before .before .before .before .before .struct-told .given .1 .1 .1 .0 .1) (c .before .before .before .before .before .before .before .before .struct-told2 .given .1 .1 .1 .0 .1) (c .before .before .before .before .before .before .before .before .before .before .before .before .before .before .pre .spin)
+add-t6 c = let d = from-spin c in sum-fits (s d .spin) (t d .spin) (s-is d .spin) (t-is d .spin) (start d .pre .spin)
 
 add-t7 : tie.Need-add-t7
-add-t7 c = sum-fits (c .before .before .before .before .before .before .before .before .before .before .before .before .before .before .before .before .before .before .args .s .motion) (c .before .before .before .before .before .before .before .before .before .before .before .before .before .before .before .before .before .before .args .t .motion) (c .before .before .before .before .before .before .before .before .before .before .before .before .before .before .struct-told .given .1 .1 .1 .1 .0 .1) (c .before .before .before .before .before .before .before .before .before .before .before .before .struct-told2 .given .1 .1 .1 .1 .0 .1) (c .before .before .before .before .before .before .before .before .before .before .before .before .before .before .before .before .before .before .pre .motion)
+add-t7 c =
+    let d = from-motion c in
+    sum-fits (s d .motion) (t d .motion) (s-is d .motion) (t-is d .motion) (start d .pre .motion)
 
 returns : tie.Need-returns
 returns c =
+    let d = from-motion c in
+    let fit = start d .pre in
     λ i.
     record {
-      mass = c .before .before .before .before .before .before .before .before .before .before .before .before .before .before .before .before .before .before .args .s .mass + c .before .before .before .before .before .before .before .before .before .before .before .before .before .before .before .before .before .before .args .t .mass;
-      px = sum-is (c .before .before .before .before .before .before .before .before .before .before .before .before .before .before .before .before .before .before .args .s .px) (c .before .before .before .before .before .before .before .before .before .before .before .before .before .before .before .before .before .before .args .t .px) (c .before .before .before .before .before .before .before .before .before .before .before .before .before .before .struct-told .given .1 .0 .1) (c .before .before .before .before .before .before .before .before .before .before .before .before .struct-told2 .given .1 .0 .1) (c .before .before .before .before .before .before .before .before .before .before .before .before .before .before .before .before .before .before .pre .px) i;
-      py = sum-is (c .before .before .before .before .before .before .before .before .before .before .before .before .before .before .before .before .before .before .args .s .py) (c .before .before .before .before .before .before .before .before .before .before .before .before .before .before .before .before .before .before .args .t .py) (c .before .before .before .before .before .before .before .before .before .before .before .before .before .before .struct-told .given .1 .1 .0 .1) (c .before .before .before .before .before .before .before .before .before .before .before .before .struct-told2 .given .1 .1 .0 .1) (c .before .before .before .before .before .before .before .before .before .before .before .before .before .before .before .before .before .before .pre .py) i;
-      spin = sum-is (c .before .before .before .before .before .before .before .before .before .before .before .before .before .before .before .before .before .before .args .s .spin) (c .before .before .before .before .before .before .before .before .before .before .before .before .before .before .before .before .before .before .args .t .spin) (c .before .before .before .before .before .before .before .before .before .before .before .before .before .before .struct-told .given .1 .1 .1 .0 .1) (c .before .before .before .before .before .before .before .before .before .before .before .before .struct-told2 .given .1 .1 .1 .0 .1) (c .before .before .before .before .before .before .before .before .before .before .before .before .before .before .before .before .before .before .pre .spin) i;
-      motion = sum-is (c .before .before .before .before .before .before .before .before .before .before .before .before .before .before .before .before .before .before .args .s .motion) (c .before .before .before .before .before .before .before .before .before .before .before .before .before .before .before .before .before .before .args .t .motion) (c .before .before .before .before .before .before .before .before .before .before .before .before .before .before .struct-told .given .1 .1 .1 .1 .0 .1) (c .before .before .before .before .before .before .before .before .before .before .before .before .struct-told2 .given .1 .1 .1 .1 .0 .1) (c .before .before .before .before .before .before .before .before .before .before .before .before .before .before .before .before .before .before .pre .motion) i;
+      mass = s d .mass + t d .mass;
+      px = sum-is (s d .px) (t d .px) (s-is d .px) (t-is d .px) (fit .px) i;
+      py = sum-is (s d .py) (t d .py) (s-is d .py) (t-is d .py) (fit .py) i;
+      spin = sum-is (s d .spin) (t d .spin) (s-is d .spin) (t-is d .spin) (fit .spin) i;
+      motion = sum-is (s d .motion) (t d .motion) (s-is d .motion) (t-is d .motion) (fit .motion) i;
     }
 
 pub plus-of-spec : {M : Type 1} → statement M

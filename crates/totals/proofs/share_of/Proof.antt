@@ -3,30 +3,75 @@
 use borrow.Author.Needs.{needs}
 use lib.IntN.{pos}
 use Rattle.bits.proofs.Held.{Held, held-unsigned, held-signed}
+use Rattle.particle.specs.declared.Particle.{Particle}
+use Rattle.particle.proofs.Fields.{Typed, typed}
 use Rattle.totals.proofs.Shares.{linear-fits, angular-fits, motion-fits, linear-held, angular-held, motion-held, shared}
 use Rattle.totals.proofs.share_of.Statement.{statement}
 use Rattle.totals.proofs.share_of.Tie as tie
 
-mass : (c : tie.After-unsigned) → Held (c .unsigned .result) (pos (c .before .args .p .mass)) 65535
-mass c = held-unsigned (c .before .args .p .mass) (c .unsigned .ensures .0) (c .unsigned .ensures .1)
+-- ---- back from each number that was widened
 
-vx : (c : tie.After-signed) → Held (c .signed .result) (c .before .before .before .args .p .vx) 32768
-vx c = held-signed (c .before .before .before .args .p .vx) (c .signed .ensures) (c .before .struct-told .given .1 .1 .1 .1 .0 .1)
+abbrev at-mass : tie.After-signed → tie.After-unsigned
+at-mass c = c .before .before
 
-vy : (c : tie.After-signed2) → Held (c .signed2 .result) (c .before .before .before .before .before .args .p .vy) 32768
-vy c = held-signed (c .before .before .before .before .before .args .p .vy) (c .signed2 .ensures) (c .before .struct-told2 .given .1 .1 .1 .1 .1 .0 .1)
+abbrev at-vx : tie.After-signed2 → tie.After-signed
+at-vx c = c .before .before
 
-x : (c : tie.After-unsigned2) → Held (c .unsigned2 .result) (pos (c .before .before .before .before .before .before .before .before .before .args .p .x)) 65535
-x c = held-unsigned (c .before .before .before .before .before .before .before .before .before .args .p .x) (c .unsigned2 .ensures .0) (c .unsigned2 .ensures .1)
+abbrev at-px : tie.After-unsigned2 → tie.After-linear-share
+at-px c = c .before .before
 
-y : (c : tie.After-unsigned3) → Held (c .unsigned3 .result) (pos (c .before .before .before .before .before .before .before .before .before .before .args .p .y)) 65535
-y c = held-unsigned (c .before .before .before .before .before .before .before .before .before .before .args .p .y) (c .unsigned3 .ensures .0) (c .unsigned3 .ensures .1)
+abbrev at-vy : tie.After-linear-share → tie.After-signed2
+at-vy c = c .before .before
 
-byx : (c : tie.After-signed3) → Held (c .signed3 .result) (c .before .before .before .before .before .before .before .before .before .before .before .before .args .p .byx) 32768
-byx c = held-signed (c .before .before .before .before .before .before .before .before .before .before .before .before .args .p .byx) (c .signed3 .ensures) (c .before .struct-told3 .given .1 .1 .1 .1 .1 .1 .1 .1 .0 .1)
+abbrev at-x : tie.After-unsigned3 → tie.After-unsigned2
+at-x c = c .before
 
-bxy : (c : tie.After-signed4) → Held (c .signed4 .result) (c .before .before .before .before .before .before .before .before .before .before .before .before .before .before .args .p .bxy) 32768
-bxy c = held-signed (c .before .before .before .before .before .before .before .before .before .before .before .before .before .before .args .p .bxy) (c .signed4 .ensures) (c .before .struct-told4 .given .1 .1 .1 .1 .1 .1 .1 .0 .1)
+abbrev at-y : tie.After-signed3 → tie.After-unsigned3
+at-y c = c .before .before
+
+abbrev at-byx : tie.After-signed4 → tie.After-signed3
+at-byx c = c .before .before
+
+-- ---- the particle
+
+abbrev particle : tie.After-signed → Particle
+particle c = at-mass c .before .args .p
+
+is : (c : tie.After-signed) → Typed (particle c)
+is c = typed (particle c) (c .before .struct-told .given)
+
+-- the first numbers, from a later place
+abbrev first : tie.After-unsigned2 → tie.After-signed
+first c = at-vx (at-vy (at-px c))
+
+abbrev second : tie.After-signed4 → tie.After-unsigned2
+second c = at-x (at-y (at-byx c))
+
+abbrev begun : tie.After-signed4 → tie.After-signed
+begun c = first (second c)
+
+-- ---- each number is the particle's
+
+mass : (c : tie.After-signed) → Held (at-mass c .unsigned .result) (pos (particle c .mass)) 65535
+mass c = held-unsigned (particle c .mass) (at-mass c .unsigned .ensures .0) (at-mass c .unsigned .ensures .1)
+
+vx : (c : tie.After-signed) → Held (c .signed .result) (particle c .vx) 32768
+vx c = held-signed (particle c .vx) (c .signed .ensures) (is c .vx)
+
+vy : (c : tie.After-signed2) → Held (c .signed2 .result) (particle (at-vx c) .vy) 32768
+vy c = held-signed (particle (at-vx c) .vy) (c .signed2 .ensures) (is (at-vx c) .vy)
+
+x : (c : tie.After-unsigned2) → Held (c .unsigned2 .result) (pos (particle (first c) .x)) 65535
+x c = held-unsigned (particle (first c) .x) (c .unsigned2 .ensures .0) (c .unsigned2 .ensures .1)
+
+y : (c : tie.After-unsigned3) → Held (c .unsigned3 .result) (pos (particle (first (at-x c)) .y)) 65535
+y c = held-unsigned (particle (first (at-x c)) .y) (c .unsigned3 .ensures .0) (c .unsigned3 .ensures .1)
+
+byx : (c : tie.After-signed3) → Held (c .signed3 .result) (particle (first (at-x (at-y c))) .byx) 32768
+byx c = let d = first (at-x (at-y c)) in held-signed (particle d .byx) (c .signed3 .ensures) (is d .byx)
+
+bxy : (c : tie.After-signed4) → Held (c .signed4 .result) (particle (begun c) .bxy) 32768
+bxy c = held-signed (particle (begun c) .bxy) (c .signed4 .ensures) (is (begun c) .bxy)
 
 unsigned-requires : tie.Need-unsigned-requires
 unsigned-requires c κs = search needs
@@ -41,10 +86,10 @@ cast-t5 : tie.Need-cast-t5
 cast-t5 c = search needs
 
 linear-share-requires : tie.Need-linear-share-requires
-linear-share-requires c κs = linear-fits ((mass (c .before .before .before .before .before)) .here) ((vx (c .before .before .before)) .here)
+linear-share-requires c κs = let d = at-vx (c .before) in linear-fits (mass d .here) (vx d .here)
 
 linear-share-requires-2 : tie.Need-linear-share-requires-2
-linear-share-requires-2 c κs = linear-fits ((mass (c .before .before .before .before .before .before)) .here) ((vy (c .before .before)) .here)
+linear-share-requires-2 c κs = linear-fits (mass (at-vx (at-vy c)) .here) (vy (at-vy c) .here)
 
 unsigned-requires-2 : tie.Need-unsigned-requires-2
 unsigned-requires-2 c κs = search needs
@@ -60,19 +105,31 @@ signed-requires-4 c κs = search needs
 
 angular-share-requires : tie.Need-angular-share-requires
 angular-share-requires c κs =
-    angular-fits ((mass (c .before .before .before .before .before .before .before .before .before .before .before .before .before)) .here) ((x (c .before .before .before .before .before)) .here) ((y (c .before .before .before .before)) .here) ((vx (c .before .before .before .before .before .before .before .before .before .before .before)) .here) ((vy (c .before .before .before .before .before .before .before .before .before)) .here) ((byx (c .before .before)) .here) ((bxy c) .here)
+    angular-fits
+    (mass (begun c) .here)
+    (x (second c) .here)
+    (y (at-y (at-byx c)) .here)
+    (vx (begun c) .here)
+    (vy (at-vy (at-px (second c))) .here)
+    (byx (at-byx c) .here)
+    (bxy c .here)
 
 motion-share-requires : tie.Need-motion-share-requires
 motion-share-requires c κs =
-    motion-fits ((mass (c .before .before .before .before .before .before .before .before .before .before .before .before .before .before)) .here) ((vx (c .before .before .before .before .before .before .before .before .before .before .before .before)) .here) ((vy (c .before .before .before .before .before .before .before .before .before .before)) .here)
+    let d = c .before in
+    motion-fits (mass (begun d) .here) (vx (begun d) .here) (vy (at-vy (at-px (second d))) .here)
 
 returns : tie.Need-returns
 returns c =
-    shared (c .before .before .before .before .before .before .before .before .before .before .before .before .before .before .before .before .args .p) (c .before .before .before .before .before .before .before .before .before .before .before .before .before .before .before .unsigned .ensures .1)
-    (linear-held (mass (c .before .before .before .before .before .before .before .before .before .before .before .before .before .before .before)) (vx (c .before .before .before .before .before .before .before .before .before .before .before .before .before)) (c .before .before .before .before .before .before .before .before .before .linear-share .ensures))
-    (linear-held (mass (c .before .before .before .before .before .before .before .before .before .before .before .before .before .before .before)) (vy (c .before .before .before .before .before .before .before .before .before .before .before)) (c .before .before .before .before .before .before .before .before .linear-share2 .ensures))
-    (angular-held (mass (c .before .before .before .before .before .before .before .before .before .before .before .before .before .before .before)) (x (c .before .before .before .before .before .before .before)) (y (c .before .before .before .before .before .before)) (vx (c .before .before .before .before .before .before .before .before .before .before .before .before .before)) (vy (c .before .before .before .before .before .before .before .before .before .before .before)) (byx (c .before .before .before .before)) (bxy (c .before .before)) (c .before .angular-share .ensures))
-    (motion-held (mass (c .before .before .before .before .before .before .before .before .before .before .before .before .before .before .before)) (vx (c .before .before .before .before .before .before .before .before .before .before .before .before .before)) (vy (c .before .before .before .before .before .before .before .before .before .before .before)) (c .motion-share .ensures))
+    let d = c .before .before in
+    let m = mass (begun d) in
+    let u = vx (begun d) in
+    let v = vy (at-vy (at-px (second d))) in
+    shared (particle (begun d)) (at-mass (begun d) .unsigned .ensures .1)
+    (linear-held m u (at-px (second d) .linear-share .ensures))
+    (linear-held m v (second d .before .linear-share2 .ensures))
+    (angular-held m (x (second d)) (y (at-y (at-byx d))) u v (byx (at-byx d)) (bxy d) (c .before .angular-share .ensures))
+    (motion-held m u v (c .motion-share .ensures))
 
 pub share-of-spec : {M : Type 1} → statement M
 share-of-spec =

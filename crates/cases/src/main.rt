@@ -1,0 +1,36 @@
+// Runs the calls that standard input lists. It prints its input, and behind each call's line what the call answered and what it
+// may have changed. The head of the file `stdin` says how a line is written and what is printed.
+mod calls;
+mod names;
+mod records;
+
+use lines::words;
+
+// Room for one record more than a set may have.
+const BYTES: usize = 57358;
+
+// The most lines of an input.
+const MOST_LINES: u32 = 65536;
+
+// The lines, one after the other. The records and their end are kept from line to line.
+fn serve(bytes: &mut [u8]) {
+    let mut end = 0;
+    let mut left = MOST_LINES;
+    while 0 < left {
+        let word = words::read_word();
+        if word.end == 0 {
+            return;
+        }
+        if word.bits == names::RECORDS {
+            end = lines::records::read(bytes);
+        } else {
+            calls::call(word.bits, end, bytes);
+        }
+        left -= 1;
+    }
+}
+
+fn main() {
+    let mut bytes = [0; BYTES];
+    serve(&mut bytes);
+}

@@ -1,0 +1,84 @@
+// The file reader: the header of a bath file, and then its records.
+use bath_file::FileRead;
+use bath_file::HEADER_LENGTH;
+use bath_file::Header;
+use particle::RECORD_LENGTH;
+use particles::Checked;
+use refusal::Refusal;
+ghost use mathlib.Core.Path.{_≡_};
+ghost use lib.IntN.{natAbs};
+ghost use lib.ListN.{length};
+ghost use Rattle.refusal.specs.Refused.{result};
+ghost use Rattle.bath_file.specs.Layout.{headerLength, spare, held};
+ghost use Rattle.bath_file.specs.File.{headerIn, checkedHeader, headerAnswer, recordsAnswer, fileAnswer, toldRead};
+
+// The header that bytes of its length hold, from a word of eight bytes and one byte more: the low bits of the steps are in
+// that one.
+// `read_header` calls it with as many.
+fn unpack(bytes: &[u8]) -> Header
+    requires { ⌜ length (now bytes) ≡ headerLength ⌝ }
+    ensures { λ r. ⌜ r ≡ headerIn (now (bytes .entry)) ⌝ }
+{
+    let first = bits::word(bytes, 0);
+    let last = bytes[8];
+    Header {
+        nx: bits::low(first / 288230376151711744) as usize,
+        ny: (bits::low(first / 4503599627370496) % 64) as usize,
+        gx: bits::signed_low(bits::low(first / 274877906944), 14),
+        gy: bits::signed_low(bits::low(first / 16777216), 14),
+        count: (bits::low(first / 2048) % 8192) as usize,
+        steps: (bits::low(first % 2048 * 8) + (last / 32) as u16) as usize,
+    }
+}
+
+// The spare bits of a header, as a number. `read_header` calls it with as many.
+fn spare_bits(bytes: &[u8]) -> u16
+    requires { ⌜ length (now bytes) ≡ headerLength ⌝ }
+    ensures { λ r. ⌜ r ≡ natAbs (held spare (now (bytes .entry))) ⌝ }
+{
+    (bytes[8] % 32) as u16
+}
+
+// The header of a file of any length, without its records.
+pub fn read_header(bytes: &[u8]) -> FileRead
+    ensures { λ r. ⌜ toldRead r ≡ headerAnswer (now (bytes .entry)) ⌝ }
+{
+    if bytes.len() < HEADER_LENGTH {
+        return FileRead::Refused(Refusal::Length);
+    }
+    let header = &bytes[..HEADER_LENGTH];
+    match header_check::check_values(unpack(header)) {
+        FileRead::Refused(refusal) => FileRead::Refused(refusal),
+        FileRead::Accepted(h) => {
+            if spare_bits(header) != 0 {
+                return FileRead::Refused(Refusal::SpareBits);
+            }
+            FileRead::Accepted(h)
+        }
+    }
+}
+
+// The answer for a file with this header: its length, and then its records. `read_file` calls it.
+fn check_records(h: Header, bytes: &[u8]) -> FileRead
+    requires { ⌜ checkedHeader h (result h) ≡ result h ⌝ }
+    ensures { λ r. ⌜ toldRead r ≡ recordsAnswer h (now (bytes .entry)) ⌝ }
+{
+    let count = h.count;
+    if bytes.len() != HEADER_LENGTH + RECORD_LENGTH * count {
+        return FileRead::Refused(Refusal::Length);
+    }
+    match particles::check(h.nx, h.ny, bytes, HEADER_LENGTH, count) {
+        Checked::Records(_) => FileRead::Accepted(h),
+        Checked::Refused(refusal) => FileRead::Refused(refusal),
+    }
+}
+
+// Read a file: any bytes. The result is the header's values, and the records lie behind the header.
+pub fn read_file(bytes: &[u8]) -> FileRead
+    ensures { λ r. ⌜ toldRead r ≡ fileAnswer (now (bytes .entry)) ⌝ }
+{
+    match read_header(bytes) {
+        FileRead::Refused(refusal) => FileRead::Refused(refusal),
+        FileRead::Accepted(h) => check_records(h, bytes),
+    }
+}

@@ -1,0 +1,30 @@
+// The values of a header, checked against their limits.
+use bath_file::FileRead;
+use bath_file::Header;
+use limits::LEAST_GRAVITY;
+use limits::MOST_GRAVITY;
+use limits::MOST_RECORDS;
+use limits::MOST_STEPS;
+use refusal::Refusal;
+ghost use mathlib.Core.Path.{_≡_};
+ghost use Rattle.refusal.specs.Refused.{result};
+ghost use Rattle.bath_file.specs.File.{checkedHeader, toldRead};
+
+// The answer for a header's values, read or to be written.
+pub fn check_values(h: Header) -> FileRead
+    ensures { λ r. ⌜ toldRead r ≡ checkedHeader h (result h) ⌝ }
+{
+    if !particles::size_is_valid(h.nx, h.ny) {
+        return FileRead::Refused(Refusal::GridSize);
+    }
+    if !limits::both_between(h.gx, h.gy, LEAST_GRAVITY, MOST_GRAVITY) {
+        return FileRead::Refused(Refusal::Gravity);
+    }
+    if MOST_RECORDS < h.count {
+        return FileRead::Refused(Refusal::Count);
+    }
+    if MOST_STEPS < h.steps {
+        return FileRead::Refused(Refusal::Steps);
+    }
+    FileRead::Accepted(h)
+}

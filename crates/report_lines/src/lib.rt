@@ -1,0 +1,40 @@
+// The lines of a report, each appended to a buffer with room for it.
+use particle::Particle;
+use totals::Totals;
+ghost use Rattle.text.specs.Internal.{Room, Put};
+ghost use Rattle.report.specs.Lines.{refusedLine, doneLine, totalsLine, particleLine};
+
+pub fn put_refused(out: &mut [u8], at: usize, refusal: u64, place: u64) -> usize
+    requires { ⌜ Room (now out) at (refusedLine refusal place) ⌝ }
+    ensures { λ r. ⌜ Put (now (out .entry)) at (refusedLine refusal place) (now (out .exit)) r ⌝ }
+{
+    let last = phrases::put_named_natural(out, at, b"refused ", refusal, text::SPACE);
+    phrases::put_named_natural(out, last, b"at ", place, text::LINE_FEED)
+}
+
+pub fn put_done(out: &mut [u8], at: usize, completed: u64, refusal: u64, place: u64) -> usize
+    requires { ⌜ Room (now out) at (doneLine completed refusal place) ⌝ }
+    ensures { λ r. ⌜ Put (now (out .entry)) at (doneLine completed refusal place) (now (out .exit)) r ⌝ }
+{
+    let first = phrases::put_named_natural(out, at, b"done ", completed, text::SPACE);
+    let second = phrases::put_named_natural(out, first, b"refusal ", refusal, text::SPACE);
+    phrases::put_named_natural(out, second, b"at ", place, text::LINE_FEED)
+}
+
+// One more sum is one more name with its place, and one more number.
+pub fn put_totals(out: &mut [u8], at: usize, t: Totals) -> usize
+    requires { ⌜ Room (now out) at (totalsLine t) ⌝ }
+    ensures { λ r. ⌜ Put (now (out .entry)) at (totalsLine t) (now (out .exit)) r ⌝ }
+{
+    let last = phrases::put_named_natural(out, at, b"mass ", t.mass, text::SPACE);
+    let sums = [t.px, t.py, t.spin, t.motion];
+    phrases::put_filled(out, last, b"px ? py ? spin ? motion ?\n", &sums)
+}
+
+pub fn put_particle(out: &mut [u8], at: usize, p: Particle) -> usize
+    requires { ⌜ Room (now out) at (particleLine p) ⌝ }
+    ensures { λ r. ⌜ Put (now (out .entry)) at (particleLine p) (now (out .exit)) r ⌝ }
+{
+    let numbers = record_reader::numbers_of(p);
+    phrases::put_filled(out, at, b"? ? ? ? ? ? ? ? ? ?\n", &numbers)
+}

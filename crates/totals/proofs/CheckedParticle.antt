@@ -1,0 +1,81 @@
+-- One particle more: the walk's answer by the check's, and totals that stay small on the way.
+--     particle-passes, refuses          the answer of the set's checks, with the totals
+--     small-plus, small-fits   sums of small totals are small, and fit
+-- Assumes nothing.
+use mathlib.Core.Path.{_≡_, refl, sym, ap, _∙_}
+use Prim.Native.Nat.{ℕ, _+_, _*_, _≤_, _<_, _^_}
+use native.Mathlib.Omega.{arith}
+use lib.IntN.{ℤ, natAbs, _+ℤ_}
+use mir.Syntax.{w64}
+use mir.Val.{SFits}
+use Rattle.refusal.specs.Refused.{Answer, result, refused, refusedBy, andThen}
+use Rattle.refusal.specs.declared.Refusal.{Refusal}
+use Rattle.refusal.proofs.Answers.{same-result, not-result, not-refused, same-refusal}
+use Rattle.limits.specs.Limits.{mostRecords}
+use Rattle.arith.specs.Size.{bound-fits, natAbs-sum}
+use Rattle.particle.specs.declared.Particle.{Particle}
+use Rattle.particles.specs.declared.Entry.{Entry}
+use Rattle.particles.specs.declared.Entered.{Entered}
+use Rattle.particles.specs.declared.Entered.the-variants as entered
+use Rattle.particles.specs.Set.{checkedParticle}
+use Rattle.particles.specs.Walk.{followed, toldEntered, checkParticle}
+use Rattle.particles.proofs.Checks.{checked-facts}
+use Rattle.totals.specs.declared.Totals.{Totals}
+use Rattle.totals.specs.declared.Progress.{Progress}
+use Rattle.totals.specs.Walk.{Small, SumFits, plus, share, advanced, nextAnswer}
+
+module _ (nx ny k : ℕ) (s : Progress) (p : Particle) where
+  abbrev so-far : Entry
+  so-far = record { least = s .least; mass = s .totals .mass }
+
+  pub particle-passes : (r : Entered) {e : Entry} {t : Totals} → toldEntered r ≡ checkParticle nx ny k so-far p → r ≡ entered.Passed e → t ≡ plus (s .totals) (share p) → result (record { least = e .least; totals = t }) ≡ nextAnswer nx ny k s p
+  particle-passes r {e} {t} told is sums = go (checkedParticle nx ny k (s .least) (s .totals .mass) p) refl (sym told ∙ ap toldEntered is)
+    where
+      go : (a : Answer Particle) → checkedParticle nx ny k (s .least) (s .totals .mass) p ≡ a → andThen a (λ q. result (followed so-far q)) ≡ result e → result (record { least = e .least; totals = t }) ≡ andThen a (λ q. result (advanced s q))
+      go (result q) h g =
+          let same = checked-facts nx ny k (s .least) (s .totals .mass) p h .0 in
+          let all : t ≡ plus (s .totals) (share q) = sums ∙ ap (λ x. plus (s .totals) (share x)) same in
+          λ i. result (record { least = sym (same-result g) i .least; totals = all i })
+      go (refused n j) h g = not-result g
+
+  pub refuses : (r : Entered) (f : Refusal) → toldEntered r ≡ checkParticle nx ny k so-far p → r ≡ entered.Refused f → refusedBy f ≡ nextAnswer nx ny k s p
+  refuses r f told is = go (checkedParticle nx ny k (s .least) (s .totals .mass) p) (ap toldEntered (sym is) ∙ told)
+    where
+      go : (a : Answer Particle) → refusedBy {A = Entry} f ≡ andThen a (λ q. result (followed so-far q)) → refusedBy f ≡ andThen a (λ q. result (advanced s q))
+      go (result q) h = not-refused (sym h)
+      go (refused n j) h = same-refusal h
+
+-- ---- small totals
+
+sum-small : (a b : ℤ) (k m n : ℕ) → natAbs a ≤ m * k → natAbs b ≤ n * k → natAbs (a +ℤ b) ≤ (m + n) * k
+sum-small a b k m n ha hb = omega (arith, natAbs-sum a b)
+
+pub small-plus : (m n : ℕ) {s t : Totals} → Small m s → Small n t → Small (m + n) (plus s t)
+small-plus m n {s} {t} hs ht =
+    record {
+      mass = mass-small (s .mass) (t .mass) (hs .mass) (ht .mass);
+      px = sum-small (s .px) (t .px) 562949953421312 m n (hs .px) (ht .px);
+      py = sum-small (s .py) (t .py) 562949953421312 m n (hs .py) (ht .py);
+      spin = sum-small (s .spin) (t .spin) 562949953421312 m n (hs .spin) (ht .spin);
+      motion = sum-small (s .motion) (t .motion) 562949953421312 m n (hs .motion) (ht .motion);
+    }
+  where
+    mass-small : (a b : ℕ) → a ≤ m * 65535 → b ≤ n * 65535 → a + b ≤ (m + n) * 65535
+    mass-small a b ha hb = omega arith
+
+fits-small : (z : ℤ) (n : ℕ) → n ≤ mostRecords → natAbs z ≤ n * 562949953421312 → SFits w64 z
+fits-small z n h b = bound-fits {n = n * 562949953421312} (record { size = b }) (omega arith)
+
+pub small-fits : (n : ℕ) {s t : Totals} → n < mostRecords → Small n s → Small 1 t → SumFits s t
+small-fits n {s} {t} h hs ht =
+    let both : Small (n + 1) (plus s t) = small-plus n 1 hs ht in
+    record {
+      mass = record { fits = room (s .mass + t .mass) (both .mass) };
+      px = fits-small (s .px +ℤ t .px) (n + 1) (omega arith) (both .px);
+      py = fits-small (s .py +ℤ t .py) (n + 1) (omega arith) (both .py);
+      spin = fits-small (s .spin +ℤ t .spin) (n + 1) (omega arith) (both .spin);
+      motion = fits-small (s .motion +ℤ t .motion) (n + 1) (omega arith) (both .motion);
+    }
+  where
+    room : (a : ℕ) → a ≤ (n + 1) * 65535 → a < 2 ^ 64
+    room a b = omega arith

@@ -1,0 +1,176 @@
+//! Writes what the program `cases` must print for the input that it reads: the same calls of the
+//! operations, by the literal sums. The head of `crates/cases/stdin` says how a line is written and
+//! what is printed.
+
+mod input;
+mod output;
+
+use std::io;
+
+use input::{Line, List, Lists};
+use output::{answer, buffers, bytes, numbers, values};
+use reference::limits::{MAX_SET_LENGTH, RECORD_LENGTH};
+use reference::{
+    check_set, gather, read_file, read_record, run, scatter, step, totals, update, weights,
+    write_header, write_record, Header, Particle, Settings, Size,
+};
+
+/// The bytes that are kept from line to line, and how many of them a call is lent.
+struct Kept {
+    room: Vec<u8>,
+    end: usize,
+}
+
+impl Kept {
+    /// Room for one record more than a set may have.
+    fn new() -> Self {
+        Kept {
+            room: vec![0; MAX_SET_LENGTH + RECORD_LENGTH],
+            end: 0,
+        }
+    }
+
+    fn lent(&mut self) -> &mut [u8] {
+        &mut self.room[..self.end]
+    }
+
+    /// Records alike from a place on, with identifiers that rise from the first one's.
+    fn fill(&mut self, from: usize, end: usize, fields: &[i128]) {
+        let mut record = particle(fields);
+        for part in self.room[from..].chunks_mut(RECORD_LENGTH) {
+            part.copy_from_slice(&record.pack()[..part.len()]);
+            record.identifier = record.identifier.wrapping_add(1);
+        }
+        self.end = end;
+    }
+
+    /// Each record's fields, or its bytes if it cannot be read.
+    fn shown(&self) -> String {
+        let records = self.room[..self.end].chunks(RECORD_LENGTH);
+        let shown = |record| match read_record(record) {
+            Ok(particle) => numbers('r', &particle.fields()),
+            Err(_) => bytes(record),
+        };
+        records.map(shown).collect()
+    }
+}
+
+fn particle(fields: &[i128]) -> Particle {
+    let &[identifier, mass, x, y, vx, vy, bxx, bxy, byx, byy] = fields else {
+        panic!("not ten fields: {fields:?}");
+    };
+    Particle::at_rest(identifier as u16, mass, x, y)
+        .moving(vx, vy)
+        .with_b([bxx, bxy, byx, byy])
+}
+
+fn settings(nx: i128, ny: i128, gx: i128, gy: i128) -> Settings {
+    Settings::new(Size::new(nx, ny), gx, gy)
+}
+
+/// An operation on a record, a set or a file.
+fn on_bytes(line: &Line, kept: &mut Kept) -> Option<String> {
+    let lent = kept.lent();
+    let shown = match (line.name, &line.numbers[..]) {
+        ("weights", &[q]) => values('v', weights(q)),
+        ("read", []) => values('r', read_record(lent).map(|p| p.fields())),
+        ("check", &[nx, ny]) => {
+            let found = check_set(Size::new(nx, ny), lent);
+            values('n', found.map(|count| [count as i128]))
+        }
+        ("totals", &[nx, ny]) => {
+            let found = totals(Size::new(nx, ny), lent);
+            values(
+                'v',
+                found.map(|t| [t.mass, t.px, t.py, t.angular_momentum, t.motion]),
+            )
+        }
+        ("file", []) => values('v', read_file(lent).map(header_values)),
+        ("write", fields) => answer(write_record(&particle(fields), lent)) + &kept.shown(),
+        ("header", &[nx, ny, gx, gy, count, steps]) => {
+            let settings = settings(nx, ny, gx, gy);
+            let header = Header {
+                settings,
+                count,
+                steps,
+            };
+            answer(write_header(&header, lent)) + &kept.shown()
+        }
+        _ => return None,
+    };
+    Some(shown)
+}
+
+fn header_values(header: Header) -> [i128; 6] {
+    let Settings { size, gx, gy } = header.settings;
+    [size.nx, size.ny, gx, gy, header.count, header.steps]
+}
+
+/// An operation on a grid, whose lists are masses, x and y.
+fn on_grid(line: &Line, lists: &mut Lists, kept: &mut Kept) -> Option<String> {
+    let lent = kept.lent();
+    let mut shown = match (line.name, &line.numbers[..]) {
+        ("scatter", &[nx, ny]) => answer(scatter(Size::new(nx, ny), lent, &mut lists.lent())),
+        ("update", &[nx, ny, gx, gy]) => {
+            answer(update(settings(nx, ny, gx, gy), &mut lists.lent()))
+        }
+        ("step", &[nx, ny, gx, gy]) => {
+            let answered = step(settings(nx, ny, gx, gy), lent, &mut lists.lent());
+            answer(answered) + &kept.shown()
+        }
+        ("run", &[nx, ny, gx, gy, steps]) => {
+            let ran = run(settings(nx, ny, gx, gy), steps, lent, &mut lists.lent());
+            let answered = ran.refusal.map_or(Ok(()), Err);
+            answer(answered) + &kept.shown() + &numbers('n', &[ran.completed])
+        }
+        _ => return None,
+    };
+    shown += &buffers(lists);
+    Some(shown)
+}
+
+/// A gather, whose lists are x and y.
+fn on_velocities(line: &Line, x: &List<i64>, y: &List<i64>, kept: &mut Kept) -> Option<String> {
+    let ("gather", &[nx, ny]) = (line.name, &line.numbers[..]) else {
+        return None;
+    };
+    let gathered = gather(Size::new(nx, ny), kept.lent(), x.lent(), y.lent());
+    Some(answer(gathered) + &kept.shown())
+}
+
+/// What a line's call prints, if there is such a line.
+fn called(line: &Line, kept: &mut Kept) -> Option<String> {
+    match &line.lists[..] {
+        [] => on_bytes(line, kept),
+        [x, y] => on_velocities(line, &x.parse()?, &y.parse()?, kept),
+        [mass, x, y] => {
+            let mut lists = Lists {
+                mass: mass.parse()?,
+                x: x.parse()?,
+                y: y.parse()?,
+            };
+            on_grid(line, &mut lists, kept)
+        }
+        _ => None,
+    }
+}
+
+fn main() -> io::Result<()> {
+    let mut kept = Kept::new();
+    for text in io::read_to_string(io::stdin())?.lines() {
+        println!("{text}");
+        let Some(line) = Line::of(text) else {
+            continue;
+        };
+        match (line.name, &line.numbers[..]) {
+            ("records", &[from, end, ref fields @ ..]) => {
+                kept.fill(from as usize, end as usize, fields)
+            }
+            _ => match called(&line, &mut kept) {
+                Some(shown) => print!("{shown}"),
+                None => panic!("no such line: {text}"),
+            },
+        }
+    }
+    Ok(())
+}
