@@ -25,19 +25,19 @@
  * by its particles and not as refused.
  *
  *     kB                        refused        0        1    to 64   to 512 to 4,096
- *     gondwize_run                  3.0      4.0      4.0      4.0     22.7    151.8
- *     gondwize_run, no step         3.0      3.6      3.6      3.6     22.3    151.3
- *     gondwize_step                 2.9      4.0      4.0      4.0     22.7    151.7
- *     gondwize_scatter              1.8      1.9      1.9      1.9      1.9      1.9
- *     gondwize_update               0.2      0.2
- *     gondwize_gather               1.5      3.5      3.5      3.5     77.4     77.4
- *     gondwize_check_set            0.2      0.2      0.2      0.2      0.2      0.2
+ *     gondwize_run                  3.2      4.3      4.3      4.3     23.0    152.0
+ *     gondwize_run, no step         3.2      3.7      3.7      3.7     22.4    151.5
+ *     gondwize_step                 3.2      4.3      4.3      4.3     23.0    152.0
+ *     gondwize_scatter              2.1      2.1      2.1      2.1      2.1      2.1
+ *     gondwize_update               0.3      0.4
+ *     gondwize_gather               1.6      3.6      3.6      3.6     77.4     77.4
+ *     gondwize_check_set            0.3      0.3      0.3      0.3      0.3      0.3
  *     gondwize_totals               0.2      0.2      0.2      0.2      0.2      0.2
- *     gondwize_weights              0.1      0.1
- *     gondwize_read_record          0.1      0.1
+ *     gondwize_weights              0.2      0.2
+ *     gondwize_read_record          0.2      0.2
  *     gondwize_write_record         0.2      0.2
  *     gondwize_read_file            0.3      0.3      0.3      0.3      0.3      0.3
- *     gondwize_write_header         0.1      0.1
+ *     gondwize_write_header         0.2      0.2
  */
 #ifndef GONDWIZE_H
 #define GONDWIZE_H
@@ -45,8 +45,8 @@
 #include <stddef.h>
 #include <stdint.h>
 
-#define GONDWIZE_VERSION "1.0.0"
-#define GONDWIZE_VERSION_MAJOR 1
+#define GONDWIZE_VERSION "2.0.0"
+#define GONDWIZE_VERSION_MAJOR 2
 #define GONDWIZE_VERSION_MINOR 0
 #define GONDWIZE_VERSION_PATCH 0
 
@@ -71,7 +71,7 @@
 
 /* Lengths in bytes: a record, a header, the longest set, a file of so many records, the longest. */
 #define GONDWIZE_RECORD_LENGTH 14
-#define GONDWIZE_HEADER_LENGTH 9
+#define GONDWIZE_HEADER_LENGTH 11
 #define GONDWIZE_MOST_RECORDS 4096
 #define GONDWIZE_MOST_SET_LENGTH (GONDWIZE_RECORD_LENGTH * GONDWIZE_MOST_RECORDS)
 #define GONDWIZE_FILE_LENGTH(count) (GONDWIZE_HEADER_LENGTH + GONDWIZE_RECORD_LENGTH * (size_t)(count))
@@ -81,7 +81,7 @@
 #define GONDWIZE_PARTICLE_VALUES 10
 #define GONDWIZE_TOTALS_VALUES 5
 #define GONDWIZE_WEIGHTS_VALUES 3
-#define GONDWIZE_HEADER_VALUES 6
+#define GONDWIZE_HEADER_VALUES 9
 
 /* The grid: nodes along an axis, nodes in all, and the first and the last place on an axis of so many. */
 #define GONDWIZE_LEAST_NODES 4
@@ -105,11 +105,24 @@
 #define GONDWIZE_MOST_NODE_MASS (UINT64_C(1) << 43)
 #define GONDWIZE_MOST_NODE_VELOCITY 131072
 
+/*
+ * The kinds of edge. An open edge has width 0; the others have a band, the outermost columns and rows
+ * to their width.
+ */
+#define GONDWIZE_EDGE_OPEN 0
+#define GONDWIZE_EDGE_STICKY 1
+#define GONDWIZE_EDGE_SLIP 2
+#define GONDWIZE_LEAST_WIDTH 1
+#define GONDWIZE_MOST_WIDTH 3
+
+/* Drag, in 256ths of a node's velocity per step. */
+#define GONDWIZE_MOST_DRAG 255
+
 /* ---- Refusals. */
 
 /*
- * Number, name, and what is broken. A wrong length is: a record not 14, a header not 9, a set not a
- * multiple of 14 or above 57,344, a file shorter than 9 or not 9 + 14 * count, a grid buffer not
+ * Number, name, and what is broken. A wrong length is: a record not 14, a header not 11, a set not a
+ * multiple of 14 or above 57,344, a file shorter than 11 or not 11 + 14 * count, a grid buffer not
  * nx * ny. A position is off the grid, or, in writing a record, above 4095.
  */
 #define GONDWIZE_REFUSALS(X) \
@@ -129,7 +142,9 @@
     X(14, NEW_AFFINE, "a new entry of B is not -2047 to 2047") \
     X(15, NEW_POSITION, "a new position is off the grid") \
     X(16, SPARE_BITS, "a file's spare bits are not zero") \
-    X(17, STEPS, "more than 10000 steps")
+    X(17, STEPS, "more than 10000 steps") \
+    X(18, EDGE, "the edge is neither open with width 0 nor sticky or slip with width 1 to 3") \
+    X(19, DRAG, "drag is above 255")
 
 /* GONDWIZE_REFUSED_LENGTH = 1 and so on. */
 #define GONDWIZE_REFUSAL_CONSTANT(number, name, text) GONDWIZE_REFUSED_##name = number,
@@ -221,10 +236,14 @@ GONDWIZE_MUST_USE uint64_t gondwize_scatter(size_t nx, size_t ny,
 
 /*
  * Velocity takes the momentum's place in `px` and `py`: momentum / (4 * mass) rounded, plus gravity,
- * in 256ths; 0 at a node without mass.
- * Refused: 2; 1 for the grid buffers; 10; then for each node 11, 12.
+ * in 256ths; 0 at a node without mass. A velocity u then loses u * drag / 256, rounded. Then the edge,
+ * by its kind and width: nodes in a sticky edge's band get 0 on both axes; nodes in the columns of a
+ * slip edge's band get 0 on x, those in its rows 0 on y.
+ * Refused: 2; 1 for the grid buffers; 10; 18; 19; then for each node 11, 12, which looks at the
+ * velocity after gravity and before drag.
  */
 GONDWIZE_MUST_USE uint64_t gondwize_update(size_t nx, size_t ny, int64_t gx, int64_t gy,
+                                           size_t kind, size_t width, size_t drag,
                                            const uint64_t *mass, size_t mass_length,
                                            int64_t *px, size_t px_length,
                                            int64_t *py, size_t py_length);
@@ -241,10 +260,11 @@ GONDWIZE_MUST_USE uint64_t gondwize_gather(size_t nx, size_t ny,
 
 /*
  * One step: scatter, update, gather.
- * Refused: 2; 1, also for the grid buffers; 10; the set; then for each record 13, 14, 15, where the
- * records are as they were and the grids hold masses and updated velocities.
+ * Refused: 2; 1, also for the grid buffers; 10; 18; 19; the set; then for each record 13, 14, 15,
+ * where the records are as they were and the grids hold masses and updated velocities.
  */
 GONDWIZE_MUST_USE uint64_t gondwize_step(size_t nx, size_t ny, int64_t gx, int64_t gy,
+                                         size_t kind, size_t width, size_t drag,
                                          uint8_t *records, size_t records_length,
                                          uint64_t *mass, size_t mass_length,
                                          int64_t *px, size_t px_length,
@@ -255,10 +275,11 @@ GONDWIZE_MUST_USE uint64_t gondwize_step(size_t nx, size_t ny, int64_t gx, int64
  * completed steps, also where the run is refused. The records are those of the last completed step,
  * the grids hold masses and updated velocities of the last step tried; an accepted run of 0 steps
  * touches neither.
- * Refused: 2; 1, also for the grid buffers; 10; 17; the set; then 13, 14, 15 by the step that
- * stopped it.
+ * Refused: 2; 1, also for the grid buffers; 10; 18; 19; 17; the set; then 13, 14, 15 by the step
+ * that stopped it.
  */
-GONDWIZE_MUST_USE uint64_t gondwize_run(size_t nx, size_t ny, int64_t gx, int64_t gy, size_t steps,
+GONDWIZE_MUST_USE uint64_t gondwize_run(size_t nx, size_t ny, int64_t gx, int64_t gy,
+                                        size_t kind, size_t width, size_t drag, size_t steps,
                                         uint8_t *records, size_t records_length,
                                         uint64_t *mass, size_t mass_length,
                                         int64_t *px, size_t px_length,
@@ -267,18 +288,20 @@ GONDWIZE_MUST_USE uint64_t gondwize_run(size_t nx, size_t ny, int64_t gx, int64_
 /* ---- Files. */
 
 /*
- * Reads a bath file, whose records lie from byte 9 on. `values`: nx, ny, gx, gy, count, steps.
- * Refused: 1 shorter than 9; 2; 10; 3; 17; 16; 1 length not 9 + 14 * count; then the set.
+ * Reads a bath file, whose records lie from byte 11 on. `values`: nx, ny, gx, gy, count, steps, kind,
+ * width, drag.
+ * Refused: 1 shorter than 11; 2; 10; 18; 3; 17; 16; 1 length not 11 + 14 * count; then the set.
  */
 GONDWIZE_MUST_USE uint64_t gondwize_read_file(const uint8_t *bytes, size_t bytes_length,
-                                              int64_t values[GONDWIZE_AT_LEAST(6)]);
+                                              int64_t values[GONDWIZE_AT_LEAST(9)]);
 
 /*
  * Writes a bath file's header into `bytes`, spare bits zero.
- * Refused: 1 length not 9; 2; 10; 3; 17.
+ * Refused: 1 length not 11; 2; 10; 18; 19; 3; 17.
  */
 GONDWIZE_MUST_USE uint64_t gondwize_write_header(size_t nx, size_t ny, int64_t gx, int64_t gy,
                                                  size_t count, size_t steps,
+                                                 size_t kind, size_t width, size_t drag,
                                                  uint8_t *bytes, size_t bytes_length);
 
 #ifdef __cplusplus

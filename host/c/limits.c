@@ -1,8 +1,9 @@
 /*
- * Holds the static library and its header to what the header says: every limit of a record and of a
- * header at its edge and far beyond, those of a set, of a node and of an offset at their edge and one
- * beyond, refusals by name and by text, empty slices, and a file that is written and read back. Exits
- * with 1 where something differs, and says where.
+ * Holds the static library and its header to what the header says: every limit of a record, of a
+ * header and of a run's settings at its edge and far beyond, those of a set, of a node and of an
+ * offset at their edge and one beyond, what drag and edges leave of a node's velocity, refusals by
+ * name and by text, empty slices, and a file that is written and read back. Exits with 1 where
+ * something differs, and says where.
  */
 #include <inttypes.h>
 #include <stdio.h>
@@ -110,11 +111,12 @@ static void records(void)
 struct header {
     size_t nx, ny;
     int64_t gx, gy;
-    size_t count, steps;
+    size_t count, steps, kind, width, drag;
 };
 
 static const struct header full = {GONDWIZE_MOST_NODES, GONDWIZE_MOST_NODES, -GONDWIZE_MOST_GRAVITY,
-                                   GONDWIZE_MOST_GRAVITY, 0, GONDWIZE_MOST_STEPS};
+                                   GONDWIZE_MOST_GRAVITY, 0, GONDWIZE_MOST_STEPS,
+                                   GONDWIZE_EDGE_SLIP, GONDWIZE_MOST_WIDTH, GONDWIZE_MOST_DRAG};
 
 static uint64_t header_written(const char *what, const struct header *h)
 {
@@ -123,12 +125,13 @@ static uint64_t header_written(const char *what, const struct header *h)
     memset(before, 0xA5, sizeof before);
     memcpy(bytes, before, sizeof bytes);
     uint64_t answer = gondwize_write_header(h->nx, h->ny, h->gx, h->gy, h->count, h->steps,
-                                            bytes, sizeof bytes);
+                                            h->kind, h->width, h->drag, bytes, sizeof bytes);
     if (answer != 0) {
         same(what, (uint64_t)memcmp(bytes, before, sizeof bytes), 0);
     } else if (h->count == 0) {
-        const int64_t want[GONDWIZE_HEADER_VALUES] = {(int64_t)h->nx, (int64_t)h->ny, h->gx, h->gy,
-                                                      (int64_t)h->count, (int64_t)h->steps};
+        const int64_t want[GONDWIZE_HEADER_VALUES] = {
+            (int64_t)h->nx, (int64_t)h->ny, h->gx, h->gy, (int64_t)h->count,
+            (int64_t)h->steps, (int64_t)h->kind, (int64_t)h->width, (int64_t)h->drag};
         same(what, gondwize_read_file(bytes, sizeof bytes, values), 0);
         same(what, (uint64_t)memcmp(values, want, sizeof values), 0);
     }
@@ -141,7 +144,7 @@ static void header_size(const char *what, size_t at, size_t least, size_t most,
     const size_t within[] = {least, most};
     const size_t beyond[] = {most + 1, 65536 + least, 65536 + most, UINT32_MAX, SIZE_MAX};
     struct header h = full;
-    size_t *const fields[] = {&h.nx, &h.ny, &h.count, &h.steps};
+    size_t *const fields[] = {&h.nx, &h.ny, &h.count, &h.steps, &h.drag};
     for (size_t k = 0; k < sizeof within / sizeof *within; k++) {
         *fields[at] = within[k];
         same(what, header_written(what, &h), 0);
@@ -163,6 +166,7 @@ static void headers(void)
     header_size("ny", 1, GONDWIZE_LEAST_NODES, GONDWIZE_MOST_NODES, GONDWIZE_REFUSED_GRID_SIZE);
     header_size("count", 2, 0, GONDWIZE_MOST_RECORDS, GONDWIZE_REFUSED_COUNT);
     header_size("steps", 3, 0, GONDWIZE_MOST_STEPS, GONDWIZE_REFUSED_STEPS);
+    header_size("drag", 4, 0, GONDWIZE_MOST_DRAG, GONDWIZE_REFUSED_DRAG);
     for (size_t k = 0; k < sizeof beyond / sizeof *beyond; k++) {
         struct header h = full;
         h.gx = beyond[k];
@@ -173,17 +177,33 @@ static void headers(void)
     }
 }
 
-/* ---- A run's settings, over an empty set. */
+/* ---- The settings of update, step and run, which answer alike, over an empty set. */
 
 static uint64_t mass[GONDWIZE_MOST_GRID];
 static int64_t px[GONDWIZE_MOST_GRID], py[GONDWIZE_MOST_GRID];
 
-static void run_answers(size_t nx, size_t ny, int64_t gx, int64_t gy, size_t steps, uint64_t want)
+static void run_answers(size_t nx, size_t ny, int64_t gx, int64_t gy, size_t kind, size_t width,
+                        size_t drag, size_t steps, uint64_t want)
 {
-    size_t nodes = nx <= GONDWIZE_MOST_NODES && ny <= GONDWIZE_MOST_NODES ? nx * ny : 0;
+    const size_t nodes = nx <= GONDWIZE_MOST_NODES && ny <= GONDWIZE_MOST_NODES ? nx * ny : 0;
+    const uint64_t alone = GONDWIZE_NUMBER(want) == GONDWIZE_REFUSED_STEPS ? 0 : want;
     uint64_t completed = 9;
-    same("run", gondwize_run(nx, ny, gx, gy, steps, NULL, 0, mass, nodes, px, nodes, py, nodes, &completed), want);
+    memset(mass, 0, sizeof mass);
+    memset(px, 0, sizeof px);
+    memset(py, 0, sizeof py);
+    same("update", gondwize_update(nx, ny, gx, gy, kind, width, drag, mass, nodes, px, nodes, py, nodes),
+         alone);
+    same("step", gondwize_step(nx, ny, gx, gy, kind, width, drag, NULL, 0, mass, nodes, px, nodes, py,
+                               nodes), alone);
+    same("run", gondwize_run(nx, ny, gx, gy, kind, width, drag, steps, NULL, 0, mass, nodes, px, nodes,
+                             py, nodes, &completed), want);
     same("run's completed", completed, want == 0 ? steps : 0);
+}
+
+/* With open edges and no drag. */
+static void open_run_answers(size_t nx, size_t ny, int64_t gx, int64_t gy, size_t steps, uint64_t want)
+{
+    run_answers(nx, ny, gx, gy, GONDWIZE_EDGE_OPEN, 0, 0, steps, want);
 }
 
 static void runs(void)
@@ -191,18 +211,68 @@ static void runs(void)
     const uint64_t size = refused(GONDWIZE_REFUSED_GRID_SIZE, 0);
     const uint64_t gravity = refused(GONDWIZE_REFUSED_GRAVITY, 0);
     const uint64_t steps = refused(GONDWIZE_REFUSED_STEPS, 0);
-    run_answers(4, 48, 4096, -4096, 2, 0);
-    run_answers(48, 4, -4096, 4096, 10000, 0);
-    run_answers(3, 48, 0, 0, 1, size);
-    run_answers(49, 48, 0, 0, 1, size);
-    run_answers(48, 3, 0, 0, 1, size);
-    run_answers(48, 65540, 0, 0, 1, size);
-    run_answers(4, 4, 4097, 0, 1, gravity);
-    run_answers(4, 4, 65541, 0, 1, gravity);
-    run_answers(4, 4, 0, -65531, 1, gravity);
-    run_answers(4, 4, 0, 0, 10001, steps);
-    run_answers(4, 4, 0, 0, 65537, steps);
-    run_answers(4, 4, 0, 0, SIZE_MAX, steps);
+    open_run_answers(4, 48, 4096, -4096, 2, 0);
+    open_run_answers(48, 4, -4096, 4096, 10000, 0);
+    open_run_answers(3, 48, 0, 0, 1, size);
+    open_run_answers(49, 48, 0, 0, 1, size);
+    open_run_answers(48, 3, 0, 0, 1, size);
+    open_run_answers(48, 65540, 0, 0, 1, size);
+    open_run_answers(4, 5, 4097, 0, 1, gravity);
+    open_run_answers(4, 5, 65541, 0, 1, gravity);
+    open_run_answers(4, 5, 0, -65531, 1, gravity);
+    open_run_answers(4, 5, 0, 0, 10001, steps);
+    open_run_answers(4, 5, 0, 0, 65537, steps);
+    open_run_answers(4, 5, 0, 0, SIZE_MAX, steps);
+}
+
+/* Every kind with every width, and what is none, in a run and in a header. */
+static void edges(void)
+{
+    const size_t kinds[] = {GONDWIZE_EDGE_OPEN, GONDWIZE_EDGE_STICKY, GONDWIZE_EDGE_SLIP, 3, 4, 5,
+                            256, 65537, 65538, UINT32_MAX, SIZE_MAX - 1, SIZE_MAX};
+    const size_t widths[] = {0, 1, 2, 3, 4, 5, 256, 65537, UINT32_MAX, SIZE_MAX};
+    for (size_t k = 0; k < sizeof kinds / sizeof *kinds; k++) {
+        for (size_t w = 0; w < sizeof widths / sizeof *widths; w++) {
+            const size_t kind = kinds[k], width = widths[w];
+            const int narrow = GONDWIZE_LEAST_WIDTH <= width && width <= GONDWIZE_MOST_WIDTH;
+            const int within = kind == GONDWIZE_EDGE_OPEN ? width == 0 : kind <= GONDWIZE_EDGE_SLIP && narrow;
+            const uint64_t want = within ? 0 : refused(GONDWIZE_REFUSED_EDGE, 0);
+            struct header h = full;
+            h.kind = kind;
+            h.width = width;
+            same("edge", header_written("edge", &h), want);
+            run_answers(4, 7, 5, -6, kind, width, 9, 2, want);
+        }
+    }
+}
+
+static void drags(void)
+{
+    const size_t beyond[] = {256, 257, 511, 65536, 65536 + 255, UINT32_MAX, SIZE_MAX};
+    run_answers(6, 4, -5, 6, GONDWIZE_EDGE_OPEN, 0, GONDWIZE_MOST_DRAG, 2, 0);
+    for (size_t k = 0; k < sizeof beyond / sizeof *beyond; k++)
+        run_answers(6, 4, -5, 6, GONDWIZE_EDGE_STICKY, 1, beyond[k], 2, refused(GONDWIZE_REFUSED_DRAG, 0));
+}
+
+/* Of two limits that are broken, the one that is looked at first. */
+static void orders(void)
+{
+    const size_t none = 3, much = GONDWIZE_MOST_DRAG + 1, many = GONDWIZE_MOST_STEPS + 1;
+    const int64_t strong = GONDWIZE_MOST_GRAVITY + 1;
+    struct header h = full;
+    run_answers(3, 5, strong, 0, none, 0, much, 1, refused(GONDWIZE_REFUSED_GRID_SIZE, 0));
+    run_answers(4, 5, strong, 0, none, 0, much, 1, refused(GONDWIZE_REFUSED_GRAVITY, 0));
+    run_answers(4, 5, 0, 0, none, 0, much, 1, refused(GONDWIZE_REFUSED_EDGE, 0));
+    run_answers(4, 5, 0, 0, GONDWIZE_EDGE_OPEN, 0, much, many, refused(GONDWIZE_REFUSED_DRAG, 0));
+    h.steps = many;
+    h.count = GONDWIZE_MOST_RECORDS + 1;
+    same("count before steps", header_written("count", &h), refused(GONDWIZE_REFUSED_COUNT, 0));
+    h.drag = much;
+    same("drag before count", header_written("drag", &h), refused(GONDWIZE_REFUSED_DRAG, 0));
+    h.kind = none;
+    same("edge before drag", header_written("edge", &h), refused(GONDWIZE_REFUSED_EDGE, 0));
+    h.gy = strong;
+    same("gravity before edge", header_written("gravity", &h), refused(GONDWIZE_REFUSED_GRAVITY, 0));
 }
 
 /* ---- The places of a set, for each size, and its mass. */
@@ -262,8 +332,8 @@ static void total_mass(void)
 
 /* ---- The last node of the largest grid. */
 
-static void node_answers(uint64_t m, int64_t x, int64_t y, int64_t gx, int64_t gy,
-                         enum gondwize_refusal number)
+static void hindered_node_answers(uint64_t m, int64_t x, int64_t y, int64_t gx, int64_t gy, size_t kind,
+                                  size_t width, size_t drag, enum gondwize_refusal number)
 {
     const size_t nodes = GONDWIZE_MOST_GRID, last = nodes - 1, side = GONDWIZE_MOST_NODES;
     const uint64_t want = number == 0 ? 0 : refused(number, last);
@@ -273,11 +343,21 @@ static void node_answers(uint64_t m, int64_t x, int64_t y, int64_t gx, int64_t g
     mass[last] = m;
     px[last] = x;
     py[last] = y;
-    same("node", gondwize_update(side, side, gx, gy, mass, nodes, px, nodes, py, nodes), want);
+    same("node", gondwize_update(side, side, gx, gy, kind, width, drag, mass, nodes, px, nodes, py, nodes),
+         want);
     if (number != 0) {
         same("refused node's px", (uint64_t)px[last], (uint64_t)x);
         same("refused node's py", (uint64_t)py[last], (uint64_t)y);
     }
+}
+
+/* Drag and edge come after all limits of a node. */
+static void node_answers(uint64_t m, int64_t x, int64_t y, int64_t gx, int64_t gy,
+                         enum gondwize_refusal number)
+{
+    hindered_node_answers(m, x, y, gx, gy, GONDWIZE_EDGE_STICKY, 3, 0, number);
+    hindered_node_answers(m, x, y, gx, gy, GONDWIZE_EDGE_OPEN, 0, GONDWIZE_MOST_DRAG, number);
+    hindered_node_answers(m, x, y, gx, gy, GONDWIZE_EDGE_OPEN, 0, 0, number);
 }
 
 static void nodes(void)
@@ -300,6 +380,44 @@ static void nodes(void)
         node_answers(1, 0, beyond, 0, 0, quick);
         node_answers(1, edge - 4 * g, 0, g, 0, none);
         node_answers(1, 0, beyond - 4 * g, 0, g, quick);
+    }
+}
+
+/* ---- What drag and edge leave of velocities that are the same at all nodes. */
+
+static void velocity_left(size_t kind, size_t width, size_t drag, int64_t x, int64_t y)
+{
+    enum { NX = 7, NY = 9 };
+    for (size_t node = 0; node < NX * NY; node++) {
+        mass[node] = 1;
+        px[node] = -4 * 300;
+        py[node] = 4 * 45;
+    }
+    same("left", gondwize_update(NX, NY, 44, -5, kind, width, drag, mass, NX * NY, px, NX * NY, py,
+                                 NX * NY), 0);
+    for (size_t j = 0; j < NY; j++) {
+        for (size_t i = 0; i < NX; i++) {
+            const int column = i < width || i >= NX - width, row = j < width || j >= NY - width;
+            const int rests = kind == GONDWIZE_EDGE_STICKY && (column || row);
+            const int64_t ux = rests || (kind == GONDWIZE_EDGE_SLIP && column) ? 0 : x;
+            const int64_t uy = rests || (kind == GONDWIZE_EDGE_SLIP && row) ? 0 : y;
+            same("ux that is left", (uint64_t)px[j * NX + i], (uint64_t)ux);
+            same("uy that is left", (uint64_t)py[j * NX + i], (uint64_t)uy);
+        }
+    }
+}
+
+/* After gravity the velocities are -256 and 40, which loses 2.5 to a drag of 16, rounded to 3. */
+static void velocities_left(void)
+{
+    velocity_left(GONDWIZE_EDGE_OPEN, 0, 0, -256, 40);
+    for (size_t kind = GONDWIZE_EDGE_STICKY; kind <= GONDWIZE_EDGE_SLIP; kind++) {
+        for (size_t width = GONDWIZE_LEAST_WIDTH; width <= GONDWIZE_MOST_WIDTH; width++) {
+            velocity_left(kind, width, 0, -256, 40);
+            velocity_left(kind, width, 16, -240, 37);
+            velocity_left(kind, width, 128, -128, 20);
+            velocity_left(kind, width, GONDWIZE_MOST_DRAG, -1, 0);
+        }
     }
 }
 
@@ -340,22 +458,23 @@ static void empty_slices(void)
     same("scatter's mass", gondwize_scatter(4, 4, NULL, 0, NULL, 0, x, 16, y, 16), length);
     same("scatter's px", gondwize_scatter(4, 4, NULL, 0, mass, 16, NULL, 0, y, 16), length);
     same("scatter's py", gondwize_scatter(4, 4, NULL, 0, mass, 16, x, 16, NULL, 0), length);
-    same("update's mass", gondwize_update(4, 4, 0, 0, NULL, 0, x, 16, y, 16), length);
-    same("update's px", gondwize_update(4, 4, 0, 0, mass, 16, NULL, 0, y, 16), length);
-    same("update's py", gondwize_update(4, 4, 0, 0, mass, 16, x, 16, NULL, 0), length);
+    same("update's mass", gondwize_update(4, 4, 0, 0, 0, 0, 0, NULL, 0, x, 16, y, 16), length);
+    same("update's px", gondwize_update(4, 4, 0, 0, 0, 0, 0, mass, 16, NULL, 0, y, 16), length);
+    same("update's py", gondwize_update(4, 4, 0, 0, 0, 0, 0, mass, 16, x, 16, NULL, 0), length);
     same("gather", gondwize_gather(4, 4, NULL, 0, x, 16, y, 16), 0);
     same("gather's ux", gondwize_gather(4, 4, NULL, 0, NULL, 0, y, 16), length);
     same("gather's uy", gondwize_gather(4, 4, NULL, 0, x, 16, NULL, 0), length);
-    same("step", gondwize_step(4, 4, 1, 1, NULL, 0, mass, 16, x, 16, y, 16), 0);
-    same("step's mass", gondwize_step(4, 4, 1, 1, NULL, 0, NULL, 0, x, 16, y, 16), length);
-    same("step's px", gondwize_step(4, 4, 1, 1, NULL, 0, mass, 16, NULL, 0, y, 16), length);
-    same("step's py", gondwize_step(4, 4, 1, 1, NULL, 0, mass, 16, x, 16, NULL, 0), length);
-    same("run", gondwize_run(4, 4, 1, 1, 3, NULL, 0, mass, 16, x, 16, y, 16, &number), 0);
+    same("step", gondwize_step(4, 4, 1, 1, 0, 0, 0, NULL, 0, mass, 16, x, 16, y, 16), 0);
+    same("step's mass", gondwize_step(4, 4, 1, 1, 0, 0, 0, NULL, 0, NULL, 0, x, 16, y, 16), length);
+    same("step's px", gondwize_step(4, 4, 1, 1, 0, 0, 0, NULL, 0, mass, 16, NULL, 0, y, 16), length);
+    same("step's py", gondwize_step(4, 4, 1, 1, 0, 0, 0, NULL, 0, mass, 16, x, 16, NULL, 0), length);
+    same("run", gondwize_run(4, 4, 1, 1, 0, 0, 0, 3, NULL, 0, mass, 16, x, 16, y, 16, &number), 0);
     same("run's completed", number, 3);
-    same("run's slices", gondwize_run(4, 4, 1, 1, 3, NULL, 0, NULL, 0, NULL, 0, NULL, 0, &number), length);
+    same("run's slices", gondwize_run(4, 4, 1, 1, 0, 0, 0, 3, NULL, 0, NULL, 0, NULL, 0, NULL, 0, &number),
+         length);
     same("a refused run's completed", number, 0);
     same("read_file", gondwize_read_file(NULL, 0, values), length);
-    same("write_header", gondwize_write_header(4, 4, 0, 0, 0, 0, NULL, 0), length);
+    same("write_header", gondwize_write_header(4, 4, 0, 0, 0, 0, 0, 0, 0, NULL, 0), length);
 }
 
 /* ---- Answers and their texts. */
@@ -368,11 +487,11 @@ static void answers(void)
     GONDWIZE_REFUSALS(CHECKED)
 #undef CHECKED
     same("text of 0", (uint64_t)strcmp(gondwize_refusal_text(0), "not refused"), 0);
-    same("text of 18", (uint64_t)strcmp(gondwize_refusal_text(18), "unknown refusal"), 0);
+    same("text of 20", (uint64_t)strcmp(gondwize_refusal_text(20), "unknown refusal"), 0);
     same("number of an answer", GONDWIZE_NUMBER(UINT64_C(7) << 32 | 70000), 7);
     same("place of an answer", GONDWIZE_PLACE(UINT64_C(7) << 32 | 70000), 70000);
-    same("version", (uint64_t)strcmp(GONDWIZE_VERSION, "1.0.0"), 0);
-    same("length of a file", GONDWIZE_FILE_LENGTH(3), 51);
+    same("version", (uint64_t)strcmp(GONDWIZE_VERSION, "2.0.0"), 0);
+    same("length of a file", GONDWIZE_FILE_LENGTH(3), 53);
     same("length of the longest file", GONDWIZE_FILE_LENGTH(GONDWIZE_MOST_RECORDS), GONDWIZE_MOST_FILE_LENGTH);
     same("length of the longest set", GONDWIZE_MOST_SET_LENGTH, 57344);
 }
@@ -384,10 +503,11 @@ static void files(void)
     enum { COUNT = 3, NX = 4, NY = 5 };
     uint8_t file[GONDWIZE_FILE_LENGTH(COUNT)];
     int64_t values[GONDWIZE_HEADER_VALUES];
-    const int64_t want[GONDWIZE_HEADER_VALUES] = {NX, NY, -1, 1, COUNT, 2};
+    const int64_t want[GONDWIZE_HEADER_VALUES] = {NX, NY, -1, 1, COUNT, 2, GONDWIZE_EDGE_STICKY, 3, 9};
     const uint64_t last = GONDWIZE_LAST_PLACE(NX);
     uint64_t number = 0;
-    same("header", gondwize_write_header(NX, NY, -1, 1, COUNT, 2, file, GONDWIZE_HEADER_LENGTH), 0);
+    same("header", gondwize_write_header(NX, NY, -1, 1, COUNT, 2, GONDWIZE_EDGE_STICKY, 3, 9, file,
+                                         GONDWIZE_HEADER_LENGTH), 0);
     for (uint16_t k = 0; k < COUNT; k++) {
         uint8_t *at = file + GONDWIZE_FILE_LENGTH(k);
         same("record", gondwize_write_record(k, 5, last, GONDWIZE_FIRST_PLACE, 0, 0, 0, 0, 0, 0, at,
@@ -412,9 +532,13 @@ int main(void)
     records();
     headers();
     runs();
+    edges();
+    drags();
+    orders();
     places();
     total_mass();
     nodes();
+    velocities_left();
     offsets();
     empty_slices();
     answers();

@@ -72,7 +72,8 @@ int main(void)
     uint8_t *records = file + GONDWIZE_HEADER_LENGTH;
     size_t bytes = length - GONDWIZE_HEADER_LENGTH;
     uint64_t completed = 0;
-    answer = gondwize_run(nx, ny, header[2], header[3], (size_t)header[5], records, bytes,
+    answer = gondwize_run(nx, ny, header[2], header[3], (size_t)header[6], (size_t)header[7],
+                          (size_t)header[8], (size_t)header[5], records, bytes,
                           mass, nodes, px, nodes, py, nodes, &completed);
     printf("done %" PRIu64 " refusal %" PRIu32 " at %" PRIu32 "\n", completed,
            GONDWIZE_NUMBER(answer), GONDWIZE_PLACE(answer));

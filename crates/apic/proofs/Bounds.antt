@@ -10,7 +10,7 @@
 --     node-momentum-total     so at most mostMomentum·2^26·mass
 --     NodeLimits, node-limits M is 0 to 2^43, momentum at most mostMomentum·2^43, and none where M = 0
 --     momentum-fits           which a signed 64-bit number holds
---     updated-within          the updated velocity, with gravity within ±4096, is within ±131,072
+--     gravity-within          the velocity after gravity, which is within ±4096, is within ±131,072
 -- Assumes nothing.
 use mathlib.Core.Path.{_≡_, refl, sym, ap, _∙_, subst, subst₂}
 use mathlib.Core.List.{List, [], _∷_, _++_}
@@ -32,13 +32,13 @@ use Rattle.limits.specs.Limits.{mostVelocity, mostAffine, mostTotalMass, mostNo
 use Rattle.spline.specs.Spline.{displacement}
 use Rattle.spline.specs.Kernel.{leastD, mostD, Spread}
 use Rattle.particle.specs.declared.Particle.{Particle}
-use Rattle.apic.specs.Step.{Axis, alongX, alongY, apart, weight, nodeMass, nodeMomentum, nodeVelocity}
+use Rattle.apic.specs.Step.{Axis, alongX, alongY, apart, weight, nodeMass, nodeMomentum, nodeVelocity, afterGravity}
 use Rattle.apic.specs.Totals.{totalMass}
 use Rattle.apic.specs.Limits.{ParticleLimits, SetLimits}
 use Rattle.apic.proofs.Nodes.{node-most}
 use Rattle.apic.proofs.Placed.{Placed, Whole}
 use Rattle.apic.proofs.Scatter.{carried, scatter-mass}
-use Rattle.apic.proofs.Update.{updated, share-nonneg, node-mass-nonneg, massless, product-positive}
+use Rattle.apic.proofs.Update.{share-nonneg, node-mass-nonneg, massless, product-positive}
 
 -- how far apart a particle and a node with a weight are at most, along an axis: one and a half times the spacing
 abbrev pub mostApart : ℕ
@@ -187,9 +187,9 @@ module _ (w : ℕ → ℕ → ℤ) (near : Near w) (D nx ny : ℕ) where
             no-momentum = λ a. massless w D nx ny ps on a i j;
           }
 
-      -- ---- the updated velocity
+      -- ---- the velocity after gravity
 
-      pub updated-within : Spread D → (round : ℤ → ℕ → ℤ) → Nearest round → (g : ℤ) → Within (pos mostGravity) g → (a : Axis) (i j : ℕ) → Within (pos mostNodeVelocity) (updated round w D g a ps i j)
-      updated-within spread round nearest g h a i j =
+      pub gravity-within : Spread D → (round : ℤ → ℕ → ℤ) → Nearest round → (g : ℤ) → Within (pos mostGravity) g → (a : Axis) (i j : ℕ) → Within (pos mostNodeVelocity) (afterGravity round w D g a ps i j)
+      gravity-within spread round nearest g h a i j =
           velocity-within round nearest D spread g h (natAbs (nodeMass w ps i j)) (nodeMomentum w D a ps i j)
           (subst (λ M. Within (pos (mostMomentum D) *ℤ M) (nodeMomentum w D a ps i j)) (nonneg-pos (node-mass-nonneg w D nx ny ps on i j)) (node-momentum-within a i j))

@@ -1,6 +1,7 @@
 -- A kernel's weights are an instance of the laws' weights.
 --     Lawful             what the laws of a step use of weights and their D
---     lawful-updated     then an updated velocity is within its limit
+--     lawful-gravity, lawful-updated
+--                        then the velocity after gravity is within its limit, and so is what the update leaves
 --     kernel-placed      a particle on the grid is placed
 --     kernel-lawful      a kernel's weights are lawful
 --     kernel-mass-nonneg, kernel-mass
@@ -8,23 +9,27 @@
 --     kernel-momentum    a node's momentum is at most mostMomentum·2^26 times the total mass
 -- Assumes nothing.
 use mathlib.Core.List.{List}
-use Prim.Native.Nat.{ℕ, _*_, _^_, _<_}
-use lib.IntN.{ℤ, pos}
+use Prim.Native.Nat.{ℕ, _*_, _^_, _<_, _≤_}
+use native.Mathlib.Nat.{le-trans}
+use lib.IntN.{ℤ, pos, natAbs}
 use lib.Signed.{_≤ℤ_}
 use Rattle.arith.specs.Order.{Within, within-of}
-use Rattle.arith.specs.Size.{Bound, within-bound}
+use Rattle.arith.specs.Size.{Bound, bound-within, within-bound}
 use Rattle.arith.specs.Rounding.{Nearest}
 use Rattle.arith.specs.Sums.{Each, each-map}
 use Rattle.limits.specs.Limits.{mostNodeVelocity, mostGravity}
 use Rattle.spline.specs.Kernel.{weightIn, Spread, Kernel}
 use Rattle.spline.proofs.Axis.{near, moments}
 use Rattle.particle.specs.declared.Particle.{Particle}
-use Rattle.apic.specs.Step.{Axis, nodeMass, nodeMomentum}
+use Rattle.settings.specs.declared.Settings.{Settings}
+use Rattle.settings.specs.Settings.{ForceLimits}
+use Rattle.apic.specs.Step.{Axis, alongX, alongY, nodeMass, nodeMomentum, gravity, afterGravity, afterUpdate}
 use Rattle.apic.specs.Totals.{totalMass}
 use Rattle.apic.specs.Limits.{ParticleLimits}
 use Rattle.apic.proofs.Placed.{Placed}
-use Rattle.apic.proofs.Update.{updated, node-mass-nonneg}
-use Rattle.apic.proofs.Bounds.{Near, Limited, mostMomentum, node-mass-total, node-momentum-total, updated-within}
+use Rattle.apic.proofs.Update.{node-mass-nonneg}
+use Rattle.apic.proofs.Edges.{updated-less}
+use Rattle.apic.proofs.Bounds.{Near, Limited, mostMomentum, node-mass-total, node-momentum-total, gravity-within}
 
 pub record Lawful (w : ℕ → ℕ → ℤ) (D : ℕ) : Type 0 where
   pub spread : Spread D
@@ -33,9 +38,19 @@ pub record Lawful (w : ℕ → ℕ → ℤ) (D : ℕ) : Type 0 where
   -- a particle on the grid is placed
   pub placed : (nx ny : ℕ) (ps : List Particle) → Each (ParticleLimits nx ny) ps → Each (Placed w D nx ny) ps
 
-pub lawful-updated : {w : ℕ → ℕ → ℤ} {D : ℕ} → Lawful w D → (nx ny : ℕ) (ps : List Particle) → Limited nx ny ps → (round : ℤ → ℕ → ℤ) → Nearest round → (g : ℤ) → Within (pos mostGravity) g → (a : Axis) (i j : ℕ) → Within (pos mostNodeVelocity) (updated round w D g a ps i j)
-lawful-updated {w} {D} law nx ny ps limits =
-    updated-within w (law .near) D nx ny ps (law .placed nx ny ps (limits .each)) limits (law .spread)
+light : {s : Settings} → ForceLimits s → (a : Axis) → natAbs (gravity s a) ≤ mostGravity
+light forces alongX = forces .gravity-x
+light forces alongY = forces .gravity-y
+
+module _ {w : ℕ → ℕ → ℤ} {D : ℕ} (law : Lawful w D) (round : ℤ → ℕ → ℤ) (nearest : Nearest round) (s : Settings) (ps : List Particle) (limits : Limited (s .nx) (s .ny) ps) (forces : ForceLimits s) (a : Axis) (i j : ℕ) where
+  pub lawful-gravity : natAbs (afterGravity round w D (gravity s a) a ps i j) ≤ mostNodeVelocity
+  lawful-gravity =
+      within-bound
+      (gravity-within w (law .near) D (s .nx) (s .ny) ps (law .placed (s .nx) (s .ny) ps (limits .each)) limits (law .spread) round nearest
+      (gravity s a) (bound-within (record { size = light forces a })) a i j) .size
+
+  pub lawful-updated : natAbs (afterUpdate round w D s a ps i j) ≤ mostNodeVelocity
+  lawful-updated = le-trans (updated-less round nearest D s (forces .drag) a i j _ _) lawful-gravity
 
 -- ---- a kernel
 

@@ -1,6 +1,7 @@
 pub mod Nodes
 pub mod Placed
 pub mod Scatter
+pub mod Edges
 pub mod Update
 pub mod Gather
 pub mod Conservation

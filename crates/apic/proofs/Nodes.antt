@@ -1,7 +1,7 @@
 -- Sums over all nodes of a grid, by the laws of sums over a range.
 --     armed                                           Σ k·f
 --     sum-three-scaled                                Σ (a·f + b·g + c·h) over a list
---     nodes-cong, nodes-sub, nodes-scale              as for a range; of the terms only those of the grid count
+--     nodes-cong, nodes-add, nodes-sub, nodes-scale   as for a range; of the terms only those of the grid count
 --     nodes-three-scaled                              Σ (a·f + b·g + c·h) over nodes
 --     nodes-exchange                                  a sum over nodes of sums over a list
 --     nodes-within                                    the size of a sum against the sum of sizes
@@ -38,6 +38,11 @@ module _ (nx ny : ℕ) where
       sum-cong-each (λ j. j < ny) (λ j. sumOver (upTo nx) (λ i. f i j)) (λ j. sumOver (upTo nx) (λ i. g i j))
       (λ j in-y. sum-cong-each (λ i. i < nx) (λ i. f i j) (λ i. g i j) (λ i in-x. h i j in-x in-y) (upTo nx) (within-range nx))
       (upTo ny) (within-range ny)
+
+  pub nodes-add : (f g : ℕ → ℕ → ℤ) → overNodes nx ny (λ i j. f i j +ℤ g i j) ≡ overNodes nx ny f +ℤ overNodes nx ny g
+  nodes-add f g =
+      sum-cong _ _ (λ j. sum-add (λ i. f i j) (λ i. g i j) (upTo nx)) (upTo ny)
+      ∙ sum-add (λ j. sumOver (upTo nx) (λ i. f i j)) (λ j. sumOver (upTo nx) (λ i. g i j)) (upTo ny)
 
   pub nodes-sub : (f g : ℕ → ℕ → ℤ) → overNodes nx ny (λ i j. f i j -ℤ g i j) ≡ overNodes nx ny f -ℤ overNodes nx ny g
   nodes-sub f g =

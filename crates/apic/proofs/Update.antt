@@ -1,8 +1,8 @@
 -- The update of the scatter's grid, node by node and summed over all nodes, whatever forcing the nodes got.
---     updated             the velocity that the update leaves at node (i, j) on one axis, from a scatter of ps
---     unforced            the same without gravity: the node's momentum alone, rounded
+--     unforced            a node's velocity without gravity: its momentum alone, rounded
 --     Forced              the field u is the unforced velocity plus the field f, wherever there is mass
---     forced-by-gravity   the update's is, with gravity for f
+--     forced-by-gravity   the velocity after gravity is, with gravity for f
+--     forced-by-settings  what the update leaves is, with gravity and the node's change by drag and rim for f
 --     node-mass-nonneg    a node's mass is not negative
 --     massless            a node without mass has no momentum
 --     update-node         |2·(D/256·M·(unforced velocity) − momentum)| ≤ D/256·M at every node
@@ -23,17 +23,15 @@ use Rattle.arith.specs.Order.{Within, linear, reading, _&_, ≤ℤ-of-<ℤ, ≤
 use Rattle.arith.specs.Rounding.{Nearest}
 use Rattle.arith.specs.Sums.{Each, sumOver, sum-nonneg, sum-zero, each-map}
 use Rattle.particle.specs.declared.Particle.{Particle}
-use Rattle.apic.specs.Step.{Axis, alongX, alongY, weight, nodeMass, nodeMomentum, nodeVelocity, overNodes}
-use Rattle.apic.specs.Totals.{momentum, angularMomentum}
+use Rattle.settings.specs.declared.Settings.{Settings}
+use Rattle.apic.specs.Step.{Axis, alongX, alongY, weight, nodeMass, nodeMomentum, nodeVelocity, gravity, afterGravity, afterUpdate, overNodes}
+use Rattle.apic.specs.Totals.{momentum, angularMomentum, nodeChange}
 use Rattle.apic.proofs.Nodes.{armed, nodes-cong, nodes-sub, nodes-scale, nodes-within}
 use Rattle.apic.proofs.Placed.{Placed, Whole}
 use Rattle.apic.proofs.Scatter.{place, carried, fieldMomentum, fieldAngularMomentum, scatter-linear, scatter-angular}
 
-abbrev pub updated : (ℤ → ℕ → ℤ) → (ℕ → ℕ → ℤ) → ℕ → ℤ → Axis → List Particle → ℕ → ℕ → ℤ
-updated round w D g a ps i j = nodeVelocity round D g (natAbs (nodeMass w ps i j)) (nodeMomentum w D a ps i j)
-
 abbrev pub unforced : (ℤ → ℕ → ℤ) → (ℕ → ℕ → ℤ) → ℕ → Axis → List Particle → ℕ → ℕ → ℤ
-unforced round w D a ps = updated round w D (pos 0) a ps
+unforced round w D a ps = afterGravity round w D (pos 0) a ps
 
 abbrev pub Forced : (ℤ → ℕ → ℤ) → (ℕ → ℕ → ℤ) → ℕ → ℕ → ℕ → List Particle → Axis → (ℕ → ℕ → ℤ) → (ℕ → ℕ → ℤ) → Type 0
 Forced round w D nx ny ps a u f =
@@ -48,9 +46,18 @@ massive round D g (suc M) p h = plus (round p _)
     plus : (r : ℤ) → r +ℤ g ≡ r +ℤ pos 0 +ℤ g
     plus r = ap (λ r. r +ℤ g) (sym (+ℤ-idr r))
 
-pub forced-by-gravity : (round : ℤ → ℕ → ℤ) (w : ℕ → ℕ → ℤ) (D nx ny : ℕ) (ps : List Particle) (a : Axis) (g : ℤ) → Forced round w D nx ny ps a (updated round w D g a ps) (λ i j. g)
+pub forced-by-gravity : (round : ℤ → ℕ → ℤ) (w : ℕ → ℕ → ℤ) (D nx ny : ℕ) (ps : List Particle) (a : Axis) (g : ℤ) → Forced round w D nx ny ps a (afterGravity round w D g a ps) (λ i j. g)
 forced-by-gravity round w D nx ny ps a g i j in-x in-y h =
     massive round D g (natAbs (nodeMass w ps i j)) (nodeMomentum w D a ps i j) (subst (λ M. pos 0 <ℤ M) (nonneg-pos (≤ℤ-of-<ℤ h)) h)
+
+pub forced-by-settings : (round : ℤ → ℕ → ℤ) (w : ℕ → ℕ → ℤ) (D : ℕ) (s : Settings) (ps : List Particle) (a : Axis) → Forced round w D (s .nx) (s .ny) ps a (afterUpdate round w D s a ps) (λ i j. gravity s a +ℤ nodeChange round w D s a ps i j)
+unfolding nodeChange
+forced-by-settings round w D s ps a i j in-x in-y h =
+    changed (afterUpdate round w D s a ps i j) (afterGravity round w D (gravity s a) a ps i j) (unforced round w D a ps i j) (gravity s a)
+    (forced-by-gravity round w D (s .nx) (s .ny) ps a (gravity s a) i j in-x in-y h)
+  where
+    changed : (u v r g : ℤ) → v ≡ r +ℤ g → u ≡ r +ℤ (g +ℤ (u -ℤ v))
+    changed u v r g e = linear (u ∷ v ∷ r ∷ g ∷ []) e (search reading depth 30) (omega arith)
 
 -- ---- a node's mass
 

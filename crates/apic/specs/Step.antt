@@ -1,13 +1,18 @@
--- Document 01, "The step": source document 003's transfers (3) and (4) in whole numbers.
+-- Document 01, "The step", with document 02's edges and drag: source document 003's transfers (3) and (4) in whole numbers.
 -- The weights w of an axis (w x i: node i for a particle at x), their second moment D and the rounding are parameters. The
 -- engine's are spline's axisWeight and D, and arith's rounded. Assumes nothing.
+use mathlib.Core.Bool.{Bool, false, cond, _||_}
 use mathlib.Core.List.{List, map}
 use Prim.Native.Nat.{ℕ, zero, suc, _+_, _*_, _/_, _%_, _^_}
+use lib.Dec.{ltb, leb}
 use lib.ListN.{getD}
-use lib.IntN.{ℤ, pos, natAbs, _+ℤ_, _*ℤ_}
+use lib.IntN.{ℤ, pos, natAbs, _+ℤ_, _-ℤ_, _*ℤ_}
 use Rattle.arith.specs.Sums.{sumOver, upTo}
 use Rattle.spline.specs.Spline.{displacement}
 use Rattle.particle.specs.declared.Particle.{Particle}
+use Rattle.settings.specs.declared.Edge.{Edge}
+use Rattle.settings.specs.declared.Edge.the-variants.{Open, Sticky, Slip}
+use Rattle.settings.specs.declared.Settings.{Settings}
 
 pub data Axis : Type 0 where
   alongX alongY : Axis
@@ -56,6 +61,41 @@ nodeMomentum w D a ps i j =
 unfoldable pub nodeVelocity : (ℤ → ℕ → ℤ) → ℕ → ℤ → ℕ → ℤ → ℤ
 nodeVelocity round D g zero momentum = pos 0
 nodeVelocity round D g (suc M) momentum = round momentum (D / 256 * suc M) +ℤ g
+
+abbrev pub gravity : Settings → Axis → ℤ
+gravity s alongX = s .gx
+gravity s alongY = s .gy
+
+-- after gravity a velocity u loses u·drag/256, rounded
+unfoldable pub afterDrag : (ℤ → ℕ → ℤ) → ℕ → ℤ → ℤ
+afterDrag round drag u = u -ℤ round (u *ℤ pos drag) 256
+
+-- column i of n, or row: whether it is among the outermost to this width
+abbrev pub inBand : ℕ → ℕ → ℕ → Bool
+inBand width n i = ltb i width || leb n (i + width)
+
+-- where the rim holds node (i, j) on an axis: sticky in the band on both; slip on x in the band's columns, on y in its rows
+abbrev pub holds : Edge → ℕ → ℕ → Axis → ℕ → ℕ → Bool
+holds Open nx ny a i j = false
+holds (Sticky width) nx ny a i j = inBand width nx i || inBand width ny j
+holds (Slip width) nx ny alongX i j = inBand width nx i
+holds (Slip width) nx ny alongY i j = inBand width ny j
+
+-- its velocity is 0 there
+abbrev pub afterRim : Settings → Axis → ℕ → ℕ → ℤ → ℤ
+afterRim s a i j u = cond (holds (s .edge) (s .nx) (s .ny) a i j) (pos 0) u
+
+-- what the update leaves at node (i, j) on an axis: velocity after gravity, then drag, then the rim
+unfoldable pub updatedVelocity : (ℤ → ℕ → ℤ) → ℕ → Settings → Axis → ℕ → ℕ → ℕ → ℤ → ℤ
+updatedVelocity round D s a i j M momentum =
+    afterRim s a i j (afterDrag round (s .drag) (nodeVelocity round D (gravity s a) M momentum))
+
+-- of the nodes after a scatter of ps: after gravity g, and what the update leaves
+abbrev pub afterGravity : (ℤ → ℕ → ℤ) → (ℕ → ℕ → ℤ) → ℕ → ℤ → Axis → List Particle → ℕ → ℕ → ℤ
+afterGravity round w D g a ps i j = nodeVelocity round D g (natAbs (nodeMass w ps i j)) (nodeMomentum w D a ps i j)
+
+abbrev pub afterUpdate : (ℤ → ℕ → ℤ) → (ℕ → ℕ → ℤ) → ℕ → Settings → Axis → List Particle → ℕ → ℕ → ℤ
+afterUpdate round w D s a ps i j = updatedVelocity round D s a i j (natAbs (nodeMass w ps i j)) (nodeMomentum w D a ps i j)
 
 -- ---- gather, transfer (4)
 

@@ -6,4 +6,5 @@ pub mod Machine
 pub mod Rounding
 pub mod Sums
 pub mod Lists
+pub mod Fill
 pub mod Neighbours

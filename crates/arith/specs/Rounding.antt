@@ -13,6 +13,7 @@
 --     nearest-odd                   .. of -n, the negative of that of n
 --     nearest-size, nearest-size-neg               .. by magnitudes, in smaller numbers: (a + d / 2) / d
 --     nearest-shift, -up, -down                    .. with d = 2·h, by the shift that rounds down: of n + h, less one where n < 0
+--     rounded-shift                                .. that one taken from a number of 64 bits by the shift that leaves its sign alone
 -- Assumes nothing.
 use mathlib.Core.Path.{_≡_, refl, sym, ap, _∙_, subst}
 use mathlib.Core.Bool.{Bool, true, false, cond, _&&_, _||_}
@@ -242,3 +243,11 @@ nearest-shift-down n h p l =
 pub nearest-shift : (n : ℤ) (h : ℕ) → zero < h → rounded n (2 * h) ≡ shrZ (n +ℤ pos h -ℤ cond (nonNeg n) (pos 0) (pos 1)) (2 * h)
 nearest-shift (pos a) h p = nearest-shift-up (pos a) h p (pos-nonneg a) ∙ ap (λ z. shrZ z (2 * h)) (sym (+ℤ-idr (pos (a + h))))
 nearest-shift (negsuc a) h p = nearest-shift-down (negsuc a) h p (ltZ-yes tt)
+
+-- a shift by 63 places leaves 0, or −1 where n < 0
+sign-shift : (n : ℤ) → Bound n 1152921504606846976 → shrZ n 9223372036854775808 ≡ negℤ (cond (nonNeg n) (pos 0) (pos 1))
+sign-shift (pos a) b = ap pos (omega (arith, b .size))
+sign-shift (negsuc a) b = ap negsuc (omega (arith, b .size))
+
+pub rounded-shift : (n : ℤ) (h : ℕ) → zero < h → Bound n 1152921504606846976 → shrZ (n +ℤ pos h +ℤ shrZ n 9223372036854775808) (2 * h) ≡ rounded n (2 * h)
+rounded-shift n h p b = ap (λ s. shrZ (n +ℤ pos h +ℤ s) (2 * h)) (sign-shift n b) ∙ sym (nearest-shift n h p)

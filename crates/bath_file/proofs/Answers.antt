@@ -1,16 +1,17 @@
 -- The answers of reading a file and of writing a header, way by way, and what an accepted header says.
 --     too-short, header-..      the header's checks
 --     HeaderHeld, header-held   what an accepted header says of the file
+--     drag-of-file              a file's drag is in range, whatever its bytes
 --     wrong-records, right-records, records-..   the checks of the records
 --     after, long, judged, allowed   the answer of a write, and the buffer that goes with it
 -- Assumes nothing.
 use Prim.Native.Nat.{ℕ, _+_, _*_, _≤_, _<_}
 use mathlib.Core.Path.{_≡_, ap, subst, _∙_}
-use mathlib.Core.Bool.{not}
+use mathlib.Core.Bool.{true, false, not}
 use mathlib.Core.List.{List}
-use borrow.Author.Tests.{eq-eqb, ne-eqb, eqb-true, lt-ltb, le-ltb, ltb-false, not-false}
-use lib.Dec.{ltb, eqb}
-use lib.IntN.{natAbs}
+use native.Mathlib.Omega.{arith}
+use borrow.Author.Tests.{lt-ltb, le-ltb, ltb-false, not-false}
+use lib.Dec.{ltb}
 use lib.ListN.{length, take}
 use Rattle.refusal.specs.Refused.{Answer, result, refused, refuseIf, andThen, keptUnless}
 use Rattle.refusal.proofs.Answers.{passed, went-on, same-result, same-refusal, not-refused, wrong-length, right-length, length-passed}
@@ -18,8 +19,8 @@ use Rattle.particle.specs.Layout.{recordLength}
 use Rattle.particles.specs.Set.{setOf}
 use Rattle.particles.specs.Walk.{counted}
 use Rattle.bath_file.specs.declared.Header.{Header}
-use Rattle.bath_file.specs.Layout.{headerLength, held, spare}
-use Rattle.bath_file.specs.File.{headerIn, headerOf, checkedHeader, headerAnswer, recordsAnswer, writeAnswer, written}
+use Rattle.bath_file.specs.Layout.{headerLength}
+use Rattle.bath_file.specs.File.{headerIn, headerOf, checkedHeader, spareIsZero, headerAnswer, DragOfFile, recordsAnswer, writeAnswer, written}
 use Rattle.bath_file.proofs.Checks.{Valid, valid, passes, refuses}
 
 -- ---- the header
@@ -28,11 +29,8 @@ module _ (bytes : List ℕ) where
   abbrev first : List ℕ
   first = take headerLength bytes
 
-  abbrev spareIn : ℕ
-  spareIn = natAbs (held spare first)
-
   abbrev afterValues : Answer Header
-  afterValues = refuseIf (not (eqb spareIn 0)) 16 0 (result (headerIn first))
+  afterValues = refuseIf (not (spareIsZero first)) 16 0 (result (headerIn first))
 
   pub too-short : length bytes < headerLength → headerAnswer bytes ≡ refused 1 0
   unfolding headerAnswer
@@ -52,33 +50,37 @@ module _ (bytes : List ℕ) where
   spare-decides : headerLength ≤ length bytes → {g : Header} → Checked (result g) → headerAnswer bytes ≡ afterValues
   spare-decides h e = long-enough h ∙ passes (headerIn first) afterValues (valid (headerIn first) (result (headerIn first)) e .0)
 
-  pub header-spare : headerLength ≤ length bytes → {g : Header} → Checked (result g) → (spareIn ≡ 0 → ⊥) → headerAnswer bytes ≡ refused 16 0
-  header-spare h e s = spare-decides h e ∙ ap (λ b. refuseIf (not b) 16 0 (result (headerIn first))) (ne-eqb spareIn 0 s)
+  pub header-spare : headerLength ≤ length bytes → {g : Header} → Checked (result g) → spareIsZero first ≡ false → headerAnswer bytes ≡ refused 16 0
+  header-spare h e s = spare-decides h e ∙ ap (λ b. refuseIf (not b) 16 0 (result (headerIn first))) s
 
-  pub header-accepted : headerLength ≤ length bytes → {g : Header} → Checked (result g) → spareIn ≡ 0 → headerAnswer bytes ≡ result g
+  pub header-accepted : headerLength ≤ length bytes → {g : Header} → Checked (result g) → spareIsZero first ≡ true → headerAnswer bytes ≡ result g
   header-accepted h e s =
       spare-decides h e
-      ∙ ap (λ b. refuseIf (not b) 16 0 (result (headerIn first))) (eq-eqb spareIn 0 s)
+      ∙ ap (λ b. refuseIf (not b) 16 0 (result (headerIn first))) s
       ∙ valid (headerIn first) (result (headerIn first)) e .1
 
   pub record HeaderHeld (h : Header) : Type 0 where
     pub long : headerLength ≤ length bytes
     pub holds : headerIn first ≡ h
     pub valid : Valid h
-    pub spare-zero : spareIn ≡ 0
+    pub spare : spareIsZero first ≡ true
 
   pub header-held : {h : Header} → headerAnswer bytes ≡ result h → HeaderHeld h
   unfolding headerAnswer
   header-held e =
       let l = passed (ltb (length bytes) headerLength) 1 0 _ e in
       let v = valid (headerIn first) afterValues (l .1) in
-      let s = passed (not (eqb spareIn 0)) 16 0 _ (v .1) in
+      let s = passed (not (spareIsZero first)) 16 0 _ (v .1) in
       record {
         long = ltb-false (length bytes) headerLength (l .0);
         holds = same-result (s .1);
         valid = subst Valid (same-result (s .1)) (v .0);
-        spare-zero = eqb-true spareIn 0 (not-false (eqb spareIn 0) (s .0));
+        spare = not-false (spareIsZero first) (s .0);
       }
+
+pub drag-of-file : DragOfFile
+unfolding headerIn
+drag-of-file bytes = omega arith
 
 -- ---- the records
 

@@ -19,4 +19,4 @@ pub record Typed (h : Header) : Type 0 where
   pub gy : mag (h .gy) < 2 ^ 15
 
 pub typed : (h : Header) → Told h → Typed h
-typed h (nx, (ny, (gx, (gy, (count, (steps, end)))))) = record { gx = gx .1; gy = gy .1 }
+typed h (nx, (ny, (gx, (gy, rest)))) = record { gx = gx .1; gy = gy .1 }

@@ -7,7 +7,10 @@
 use Prim.Native.Nat.{ℕ, _<_}
 use native.Mathlib.Omega.{arith}
 use mathlib.Core.Path.{_≡_, refl, sym, ap, subst, _∙_}
+use mathlib.Core.Bool.{true, _&&_}
 use mathlib.Core.List.{List, _++_}
+use borrow.Author.Tests.{eqb-true}
+use lib.Dec.{eqb}
 use lib.IntN.{pos, natAbs}
 use lib.ListN.{length, getD, take, replicate, length-append}
 use lib.Seq.{length-take-le, take-at}
@@ -18,12 +21,13 @@ use Rattle.bits.proofs.Bytes.{small-part}
 use Rattle.bits.proofs.Layouts.{CanHold, Proper, fieldOf, filled-length, packed-held, held-packed}
 use Rattle.bits.proofs.Parts.{bytes-below}
 use Rattle.bits.proofs.TwosComplement.{mag-le}
+use Rattle.limits.proofs.Within.{both}
 use Rattle.apic.specs.Limits.{SizeLimits}
 use Rattle.particles.proofs.Checks.{size-limits}
 use Rattle.bath_file.specs.declared.Header.{Header}
-use Rattle.bath_file.specs.Layout.{Name, nx, ny, gx, gy, count, steps, spare, layout, headerLength, held}
-use Rattle.bath_file.specs.File.{headerIn, valueIn, headerOf, headerAnswer, writeAnswer, written}
-use Rattle.bath_file.proofs.Checks.{Valid, passes}
+use Rattle.bath_file.specs.Layout.{Name, nx, ny, gx, gy, count, steps, spareAfterSteps, kind, width, drag, spareAfterDrag, layout, headerLength, held}
+use Rattle.bath_file.specs.File.{headerIn, valueIn, headerOf, spareIsZero, headerAnswer, writeAnswer, written}
+use Rattle.bath_file.proofs.Checks.{Valid, EdgeLimits, edge-limits, passes}
 use Rattle.bath_file.proofs.Answers.{header-held, header-accepted, after, write-accepted, allowed}
 
 pub header-length : (h : Header) → length (headerOf h) ≡ headerLength
@@ -40,14 +44,26 @@ proper = record { whole = refl; distinct-names = tt; each-named = named }
     named gy = refl
     named count = refl
     named steps = refl
-    named spare = refl
+    named spareAfterSteps = refl
+    named kind = refl
+    named width = refl
+    named drag = refl
+    named spareAfterDrag = refl
 
 -- ---- read, then write
 
-header-of-held : (bytes : List ℕ) → Below (byteWidths layout) bytes → natAbs (held spare bytes) ≡ 0 → headerOf (headerIn bytes) ≡ bytes
+header-of-held : (bytes : List ℕ) → Below (byteWidths layout) bytes → spareIsZero bytes ≡ true → headerOf (headerIn bytes) ≡ bytes
 unfolding headerOf headerIn
-header-of-held bytes b zero = packed-held proper bytes (valueIn (headerIn bytes)) b same
+header-of-held bytes b none = packed-held proper bytes (valueIn (headerIn bytes)) b same
   where
+    size : Name → ℕ
+    size a = natAbs (held a bytes)
+
+    zero : (size spareAfterSteps ≡ 0) × (size spareAfterDrag ≡ 0)
+    zero =
+        let t = both (eqb (size spareAfterSteps) 0) (eqb (size spareAfterDrag) 0) none in
+        (eqb-true (size spareAfterSteps) 0 (t .0), eqb-true (size spareAfterDrag) 0 (t .1))
+
     same : (a : Name) → valueIn (headerIn bytes) a ≡ held a bytes
     same nx = refl
     same ny = refl
@@ -55,7 +71,11 @@ header-of-held bytes b zero = packed-held proper bytes (valueIn (headerIn bytes)
     same gy = refl
     same count = refl
     same steps = refl
-    same spare = ap pos (sym zero)
+    same spareAfterSteps = ap pos (sym (zero .0))
+    same kind = refl
+    same width = refl
+    same drag = refl
+    same spareAfterDrag = ap pos (sym (zero .1))
 
 module _ (bytes : List ℕ) (h : Header) (small : (i : ℕ) → getD bytes i 0 < 256) (found : headerAnswer bytes ≡ result h) where
   pub header-of-read : headerOf h ≡ take headerLength bytes
@@ -64,7 +84,7 @@ module _ (bytes : List ℕ) (h : Header) (small : (i : ℕ) → getD bytes i 0 <
       let first = take headerLength bytes in
       let below = bytes-below first (small-part bytes headerLength 0 small) in
       ap headerOf (sym (f .holds))
-      ∙ header-of-held first (subst (λ n. Below (replicate n 8) first) (length-take-le headerLength bytes (f .long)) below) (f .spare-zero)
+      ∙ header-of-held first (subst (λ n. Below (replicate n 8) first) (length-take-le headerLength bytes (f .long)) below) (f .spare)
 
   pub read-write : (buffer : List ℕ) → length buffer ≡ headerLength → (writeAnswer h buffer ≡ result tt) × (written h buffer ≡ take headerLength bytes)
   read-write buffer e =
@@ -77,6 +97,9 @@ module _ (h : Header) (valid : Valid h) where
   sizes : SizeLimits (h .nx) (h .ny)
   sizes = size-limits (h .nx) (h .ny) (valid .size)
 
+  edges : EdgeLimits (h .kind) (h .width)
+  edges = edge-limits (h .kind) (h .width) (valid .edge)
+
   holds : (a : Name) → CanHold layout a (valueIn h a)
   holds nx = omega (arith, sizes .x-most)
   holds ny = omega (arith, sizes .y-most)
@@ -84,7 +107,11 @@ module _ (h : Header) (valid : Valid h) where
   holds gy = omega (arith, mag-le (h .gy), valid .gy-to)
   holds count = omega (arith, valid .count-to)
   holds steps = omega (arith, valid .steps-to)
-  holds spare = omega arith
+  holds spareAfterSteps = omega arith
+  holds kind = omega (arith, edges .kind-to)
+  holds width = omega (arith, edges .width-to)
+  holds drag = omega (arith, valid .drag-to)
+  holds spareAfterDrag = omega arith
 
   again : (a : Name) → held a (headerOf h) ≡ valueIn h a
   unfolding headerOf
@@ -101,6 +128,9 @@ module _ (h : Header) (valid : Valid h) where
         gy = again gy i;
         count = natAbs (again count i);
         steps = natAbs (again steps i);
+        kind = natAbs (again kind i);
+        width = natAbs (again width i);
+        drag = natAbs (again drag i);
       }
 
   pub read-of-header : (rest : List ℕ) → headerAnswer (headerOf h ++ rest) ≡ result h
@@ -111,7 +141,7 @@ module _ (h : Header) (valid : Valid h) where
       header-accepted bytes
       (omega (arith, length-append (headerOf h) rest, header-length h))
       (passes (headerIn (take headerLength bytes)) _ (subst Valid (sym reads) valid) ∙ ap result reads)
-      (ap (λ l. natAbs (held spare l)) first ∙ ap natAbs (again spare))
+      (ap spareIsZero first ∙ λ i. eqb (natAbs (again spareAfterSteps i)) 0 && eqb (natAbs (again spareAfterDrag i)) 0)
 
 pub write-read : (h : Header) (buffer rest : List ℕ) → writeAnswer h buffer ≡ result tt → headerAnswer (written h buffer ++ rest) ≡ result h
 write-read h buffer rest done =

@@ -1,4 +1,5 @@
--- The layout of a bath file's header: one table of its fields, in document 01's order ("Records"), most significant bit first.
+-- The layout of a bath file's header: one table of its fields, in the order of documents 01 ("Records") and 02 (Paper 1), most
+-- significant bit first.
 --     Name            the fields' names
 --     headerLength    the length of a header in bytes
 --     layout          the table
@@ -17,7 +18,11 @@ pub data Name : Type 0 where
   gy : Name
   count : Name
   steps : Name
-  spare : Name
+  spareAfterSteps : Name
+  kind : Name
+  width : Name
+  drag : Name
+  spareAfterDrag : Name
 
 abbrev pub code : Name → ℕ
 code nx = 0
@@ -26,10 +31,14 @@ code gx = 2
 code gy = 3
 code count = 4
 code steps = 5
-code spare = 6
+code spareAfterSteps = 6
+code kind = 7
+code width = 8
+code drag = 9
+code spareAfterDrag = 10
 
 abbrev pub headerLength : ℕ
-headerLength = 9
+headerLength = 11
 
 abbrev pub layout : Layout Name
 layout =
@@ -41,7 +50,11 @@ layout =
           ∷ field gy 14 signed
           ∷ field count 13 unsigned
           ∷ field steps 14 unsigned
-          ∷ field spare 5 unsigned
+          ∷ field spareAfterSteps 5 unsigned
+          ∷ field kind 2 unsigned
+          ∷ field width 2 unsigned
+          ∷ field drag 8 unsigned
+          ∷ field spareAfterDrag 4 unsigned
           ∷ [];
       size = headerLength;
       code = code;

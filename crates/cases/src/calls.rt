@@ -75,8 +75,13 @@ fn update() {
     let ny = size();
     let gx = integer();
     let gy = integer();
+    let kind = size();
+    let width = size();
+    let drag = size();
     let m = naturals(&mut mass);
-    let code = gondwize::gondwize_update(nx, ny, gx, gy, m, integers(&mut x), integers(&mut y));
+    let ux = integers(&mut x);
+    let uy = integers(&mut y);
+    let code = gondwize::gondwize_update(nx, ny, gx, gy, kind, width, drag, m, ux, uy);
     print::answer(code);
     print::grids(&mass, &x, &y);
 }
@@ -101,6 +106,9 @@ fn step(bytes: &mut [u8]) {
         size(),
         integer(),
         integer(),
+        size(),
+        size(),
+        size(),
         bytes,
         naturals(&mut mass),
         integers(&mut x),
@@ -121,6 +129,9 @@ fn run(bytes: &mut [u8]) {
         integer(),
         integer(),
         size(),
+        size(),
+        size(),
+        size(),
         bytes,
         naturals(&mut mass),
         integers(&mut x),
@@ -133,7 +144,7 @@ fn run(bytes: &mut [u8]) {
 }
 
 fn read_file(bytes: &[u8]) {
-    let mut values = [7; 6];
+    let mut values = [7; 9];
     print::answer(gondwize::gondwize_read_file(bytes, &mut values));
     print::header(&values);
 }
@@ -144,6 +155,9 @@ fn write_header(bytes: &mut [u8]) {
         size(),
         integer(),
         integer(),
+        size(),
+        size(),
+        size(),
         size(),
         size(),
         bytes,

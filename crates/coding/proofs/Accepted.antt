@@ -13,6 +13,7 @@ use Rattle.particles.proofs.Checks.{size-limits}
 use Rattle.particles.proofs.Accepted.{accepted-limits}
 use Rattle.bath_file.specs.declared.Header.{Header}
 use Rattle.bath_file.specs.File.{fileAnswer}
+use Rattle.bath_file.proofs.Checks.{edge-limits}
 use Rattle.bath_file.proofs.Answers.{header-held}
 use Rattle.bath_file.proofs.Records.{file-held}
 use Rattle.wide.specs.Internal.{Narrow}
@@ -26,4 +27,13 @@ pub narrow : (bytes : List ℕ) {told : Answer Header} {h : Header} → told ≡
 narrow bytes {h = h} is by =
     let v = header-held bytes (file-held bytes h (sym is ∙ by) .header) .valid in
     let s = size-limits (h .nx) (h .ny) (v .size) in
-    record { nx = omega arith; ny = omega arith; count = omega arith; steps = omega arith }
+    let e = edge-limits (h .kind) (h .width) (v .edge) in
+    record {
+      nx = omega arith;
+      ny = omega arith;
+      count = omega arith;
+      steps = omega arith;
+      kind = omega (arith, e .kind-to);
+      width = omega (arith, e .width-to);
+      drag = omega (arith, v .drag-to);
+    }

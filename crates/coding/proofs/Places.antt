@@ -13,7 +13,7 @@ use lib.ListN.{length, getD, take, length-map}
 use borrow.Author.Tests.{not-false}
 use Rattle.refusal.specs.Refused.{Answer, result, refused, refuseIf, andThen, forEach, toldOf}
 use Rattle.refusal.proofs.Answers.{went-on, same-result}
-use Rattle.limits.specs.Limits.{mostSide, mostRecords, mostTotalMass, mostNodeVelocity, mostGravity, mostSteps, validMass, validGravity}
+use Rattle.limits.specs.Limits.{mostSide, mostRecords, mostTotalMass, mostNodeVelocity, mostGravity, mostDrag, mostSteps, validMass, validGravity}
 use Rattle.spline.specs.Spline.{axisWeight, D}
 use Rattle.particle.specs.declared.Particle.{Particle}
 use Rattle.particle.specs.Layout.{recordLength}
@@ -27,11 +27,11 @@ use Rattle.update.specs.Update.{breaksMass, breaksVelocity, checkNode, checkNod
 use Rattle.apic.specs.Step.{newCoordinate, alongX, alongY, Grids}
 use Rattle.apic.specs.Limits.{SizeLimits, SetLimits}
 use Rattle.gathering.specs.Gather.{tooFast, tooSteep, offGrid, moveCheck, moveChecks, gathered}
-use Rattle.settings.specs.Settings.{still}
+use Rattle.settings.specs.Settings.{edgeOf, still, validEdge}
 use Rattle.entry.specs.declared.Buffers.{Buffers}
 use Rattle.entry.specs.declared.Buffers.the-variants.{Two, Three}
 use Rattle.entry.specs.Checks.{areLong, bothWithin}
-use Rattle.entry.specs.Entry.{beginAnswer, entryAnswer}
+use Rattle.entry.specs.Entry.{checkedForces, beginAnswer, entryAnswer}
 use Rattle.entry.proofs.Entry.{passed-checks, accepted}
 use Rattle.transfer.specs.Transfer.{velocityCheck, velocityChecks, checkedSet, gatherAnswer}
 use Rattle.settings.specs.declared.Settings.{Settings}
@@ -40,7 +40,7 @@ use Rattle.simulation.specs.Run.{runFrom, runBy, runEntry, runAfter}
 use Rattle.simulation.proofs.Steps.{step-result}
 use Rattle.simulation.proofs.Calls.{ready-step, ready-run}
 use Rattle.bath_file.specs.declared.Header.{Header}
-use Rattle.bath_file.specs.Layout.{headerLength, spare, held}
+use Rattle.bath_file.specs.Layout.{headerLength}
 use Rattle.bath_file.specs.File as file
 use Rattle.bath_file.proofs.Answers.{header-held}
 use Rattle.coding.proofs.Coding.{Placed, accepts, refuses}
@@ -140,6 +140,12 @@ nodes-few {nx} {ny} s = few (lt (nx * ny) (mul-le-mul (s .x-most) (s .y-most)))
 
 -- ---- the checks at entry
 
+forces : (s : Settings) (rest : Answer Unit) → Placed rest → Placed (checkedForces s rest)
+unfolding checkedForces
+forces s rest h =
+    plain (not (bothWithin mostGravity (s .gx) (s .gy))) 10 _
+    (λ _. plain (not (validEdge (s .edge))) 18 _ (λ _. plain (ltb mostDrag (s .drag)) 19 _ (λ _. h)))
+
 begin : (s : Settings) (buffers : Buffers) (steps bytes : ℕ) → Placed (beginAnswer s buffers steps bytes)
 unfolding beginAnswer
 begin s buffers steps bytes =
@@ -148,7 +154,7 @@ begin s buffers steps bytes =
     plain (not (validLength bytes)) 1 _
     (λ _.
     plain (not (areLong (s .nx * s .ny) buffers)) 1 _
-    (λ _. plain (not (bothWithin mostGravity (s .gx) (s .gy))) 10 _ (λ _. plain (ltb mostSteps steps) 17 _ (λ _. accepts)))))
+    (λ _. forces s _ (plain (ltb mostSteps steps) 17 _ (λ _. accepts)))))
 
 module _ (s : Settings) (buffers : Buffers) (steps : ℕ) (records : List ℕ) where
   pub entry : Placed (entryAnswer s buffers steps records)
@@ -164,20 +170,17 @@ module _ (s : Settings) (buffers : Buffers) (steps : ℕ) (records : List ℕ) w
 
 -- ---- update
 
-module _ (nx ny : ℕ) (gx gy : ℤ) (mass : List ℕ) (px py : List ℤ) where
-  abbrev settings : Settings
-  settings = record { nx = nx; ny = ny; gx = gx; gy = gy }
-
+module _ (s : Settings) (mass : List ℕ) (px py : List ℤ) where
   abbrev three : Buffers
   three = Three (length mass) (length px) (length py)
 
-  pub update : Placed (updateAnswer nx ny gx gy mass px py)
+  pub update : Placed (updateAnswer s mass px py)
   unfolding updateAnswer checkNodes
   update =
-      next (beginAnswer settings three 0 0) _ (begin settings three 0 0)
+      next (beginAnswer s three 0 0) _ (begin s three 0 0)
       (λ _ e.
-      each (checkNodeAt D gx gy mass px py) 0 (nx * ny) (λ i h. node D gx gy i (getD mass i 0) (getD px i (pos 0)) (getD py i (pos 0)) h)
-      (nodes-few (size-limits nx ny (passed-checks settings three 0 0 e .0 .size))))
+      each (checkNodeAt D (s .gx) (s .gy) mass px py) 0 (s .nx * s .ny) (λ i h. node D (s .gx) (s .gy) i (getD mass i 0) (getD px i (pos 0)) (getD py i (pos 0)) h)
+      (nodes-few (size-limits (s .nx) (s .ny) (passed-checks s three 0 0 e .0 .size))))
 
 -- ---- transfers
 
@@ -281,7 +284,11 @@ header h rest p =
     plain (not (validSize (h .nx) (h .ny))) 2 _
     (λ _.
     plain (not (validGravity (h .gx) && validGravity (h .gy))) 10 _
-    (λ _. plain (ltb mostRecords (h .count)) 3 _ (λ _. plain (ltb mostSteps (h .steps)) 17 _ (λ _. p))))
+    (λ _.
+    plain (not (validEdge (edgeOf (h .kind) (h .width)))) 18 _
+    (λ _.
+    plain (ltb mostDrag (h .drag)) 19 _
+    (λ _. plain (ltb mostRecords (h .count)) 3 _ (λ _. plain (ltb mostSteps (h .steps)) 17 _ (λ _. p))))))
 
 module _ (bytes : List ℕ) where
   header-read : Placed (file.headerAnswer bytes)
@@ -290,7 +297,7 @@ module _ (bytes : List ℕ) where
       plain (ltb (length bytes) headerLength) 1 _
       (λ _.
       header (file.headerIn (take headerLength bytes)) _
-      (plain (not (eqb (natAbs (held spare (take headerLength bytes))) 0)) 16 _ (λ _. accepts)))
+      (plain (not (file.spareIsZero (take headerLength bytes))) 16 _ (λ _. accepts)))
 
   records-read : (h : Header) → h .count ≤ mostRecords → Placed (file.recordsAnswer h bytes)
   unfolding file.recordsAnswer

@@ -9,10 +9,6 @@ use Rattle.simulation.specs.Step.{Sees}
 use Rattle.simulation.specs.Run.{Completion, runAfter}
 use Rattle.coding.specs.Coded.{coded}
 
--- settings of these numbers
-abbrev pub settingsWith : ℕ → ℕ → ℤ → ℤ → Settings
-settingsWith nx ny gx gy = record { nx = nx; ny = ny; gx = gx; gy = gy }
-
 -- the records and grids are those of the run; the number is that of the refusal that stopped it, and the caller gets the number
 -- of completed steps, refused or not
 pub record RunTells (s : Settings) (steps : ℕ) (records : List ℕ) (grids : Grids) (number : ℕ) (records′ mass′ : List ℕ) (x′ y′ : List ℤ) (completed′ : ℕ) : Type 0 where

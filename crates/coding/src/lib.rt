@@ -1,9 +1,9 @@
 // A run as programs in other languages see it: its answer as one number, and the completed steps through the caller's number.
-use settings::Settings;
 use simulation::Ran;
 use wide::answer;
 ghost use Rattle.apic.specs.Step.{gridsOf};
-ghost use Rattle.coding.specs.Runs.{RunTells, settingsWith};
+ghost use Rattle.settings.specs.Settings.{settingsWith};
+ghost use Rattle.coding.specs.Runs.{RunTells};
 
 // The number of completed steps is told also where a refusal stopped the run. `gondwize_run` calls it.
 pub fn run_told(
@@ -11,6 +11,9 @@ pub fn run_told(
     ny: usize,
     gx: i64,
     gy: i64,
+    kind: usize,
+    width: usize,
+    drag: usize,
     steps: usize,
     records: &mut [u8],
     mass: &mut [u64],
@@ -18,11 +21,11 @@ pub fn run_told(
     py: &mut [i64],
     completed: &mut u64,
 ) -> u64
-    ensures { λ r. ⌜ RunTells (settingsWith nx ny gx gy) steps
+    ensures { λ r. ⌜ RunTells (settingsWith nx ny gx gy kind width drag) steps
         (now (records .entry)) (gridsOf (now (mass .entry)) (now (px .entry)) (now (py .entry))) r
         (now (records .exit)) (now (mass .exit)) (now (px .exit)) (now (py .exit)) (now (completed .exit)) ⌝ }
 {
-    let settings = Settings { nx, ny, gx, gy };
+    let settings = settings::of_numbers(nx, ny, gx, gy, kind, width, drag);
     match run::run(settings, steps, records, mass, px, py) {
         Ran::Stopped(count, refusal) => {
             *completed = count as u64;

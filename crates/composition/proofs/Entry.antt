@@ -1,19 +1,17 @@
 -- What is known where a step's checks at entry pass.
 --     step-from       a step, by its answer at entry
---     known           the set is accepted and keeps its limits, the grids have the right length, and gravity keeps its limits
+--     known           the set is accepted and keeps its limits, and the grids have the right length
 -- Assumes nothing.
 use mathlib.Core.Path.{_≡_, ap}
 use mathlib.Core.List.{List}
-use Prim.Native.Nat.{ℕ, _≤_}
-use lib.IntN.{natAbs}
+use Prim.Native.Nat.{ℕ}
 use Rattle.refusal.specs.Refused.{Answer, result, refused, either}
-use Rattle.limits.specs.Limits.{mostGravity}
 use Rattle.particle.specs.declared.Particle.{Particle}
-use Rattle.apic.specs.Step.{Axis, alongX, alongY, Grids}
+use Rattle.apic.specs.Step.{Grids}
 use Rattle.apic.specs.Limits.{SetLimits}
 use Rattle.settings.specs.declared.Settings.{Settings}
 use Rattle.entry.proofs.Entry.{Accepted, accepted}
-use Rattle.simulation.specs.Step.{seen, gravity, buffersOf, stepEntry, stepFrom, stepAfter}
+use Rattle.simulation.specs.Step.{seen, buffersOf, stepEntry, stepFrom, stepAfter}
 use Rattle.simulation.proofs.Calls.{ready-step}
 
 pub step-from : (s : Settings) (records : List ℕ) (lent : Grids) {a : Answer (List Particle)} → stepEntry s records lent ≡ a → stepAfter s records lent ≡ either a (λ ps. stepFrom s records ps) (λ n k. seen (refused n k) records lent)
@@ -23,7 +21,6 @@ step-from s records lent e = ap (λ a. either a (λ ps. stepFrom s records ps) (
 pub record Known (s : Settings) (records : List ℕ) (lent : Grids) (ps : List Particle) : Type 0 where
   pub accepted : Accepted s (buffersOf lent) 0 records ps
   pub limits : SetLimits (s .nx) (s .ny) ps
-  pub light : (a : Axis) → natAbs (gravity s a) ≤ mostGravity
 
 pub known : (s : Settings) (records : List ℕ) (lent : Grids) {ps : List Particle} → stepEntry s records lent ≡ result ps → Known s records lent ps
 unfolding stepEntry
@@ -32,5 +29,4 @@ known s records lent e =
     record {
       accepted = a;
       limits = ready-step s records lent e .limits;
-      light = λ b. elim b [ alongX ↦ a .gravity-x | alongY ↦ a .gravity-y ];
     }

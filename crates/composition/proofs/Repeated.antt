@@ -48,14 +48,13 @@ module _ (s : Settings) (records : List ℕ) (grids : Grids) where
     unfolding stepEntry
     again =
         let k = known s records grids e in
-        let g = grid-limits spline-lawful s ps (k .limits) (k .light) in
-        let v = velocity-limits spline-lawful s ps (k .limits) (k .light) in
+        let g = grid-limits spline-lawful s ps (k .limits) (k .accepted .forces) in
+        let v = velocity-limits spline-lawful s ps (k .limits) (k .accepted .forces) in
         enters s (buffersOf (nodesOf s ps)) 0 (recordsOf qs)
         (record {
           set = limits-accepted (s .nx) (s .ny) qs after;
-          long = three-long (record { mass-is = g .mass-length; x-is = v alongX .count; y-is = v alongY .count });
-          gravity-x = k .light alongX;
-          gravity-y = k .light alongY;
+          long = three-long (record { mass-is = g .within .mass-length; x-is = v alongX .count; y-is = v alongY .count });
+          forces = k .accepted .forces;
           few = omega arith;
         })
 

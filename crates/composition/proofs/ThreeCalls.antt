@@ -57,11 +57,16 @@ module _ (s : Settings) (records : List ℕ) (lent : Grids) {ps : List Particle}
   abbrev k : Known s records lent ps
   k = known s records lent e
 
-  -- the same set, with buffers of the grid's size and no gravity
+  -- the same set, with buffers of the grid's size, no gravity, open edges and no drag
   entry-is : (buffers : Buffers) → areLong (s .nx * s .ny) buffers ≡ true → entryAnswer (still (s .nx) (s .ny)) buffers 0 records ≡ result ps
   entry-is buffers h =
       enters (still (s .nx) (s .ny)) buffers 0 records
-      (record { set = k .accepted .set; long = h; gravity-x = omega arith; gravity-y = omega arith; few = omega arith })
+      (record {
+        set = k .accepted .set;
+        long = h;
+        forces = record { gravity-x = omega arith; gravity-y = omega arith; edge = refl; drag = omega arith };
+        few = omega arith;
+      })
 
   -- a step's velocities on an axis
   abbrev u : Axis → List ℤ
@@ -70,13 +75,13 @@ module _ (s : Settings) (records : List ℕ) (lent : Grids) {ps : List Particle}
   scatter-is : scatterAnswer (s .nx) (s .ny) records (length (lent .mass)) (length (lent .x)) (length (lent .y)) ≡ result ps
   scatter-is = entry-is _ (k .accepted .long)
 
-  update-is : updateAnswer (s .nx) (s .ny) (s .gx) (s .gy) (masses s ps) (momenta s alongX ps) (momenta s alongY ps) ≡ done
-  update-is = refusals.update-done s ps (k .limits) (k .light)
+  update-is : updateAnswer s (masses s ps) (momenta s alongX ps) (momenta s alongY ps) ≡ done
+  update-is = refusals.update-done s ps (k .limits) (k .accepted .forces)
 
   gather-is : gatherAnswer (s .nx) (s .ny) records (u alongX) (u alongY) ≡ stepOf s ps
   unfolding checkedSet stepBy steppedBy
   gather-is =
-      let v = velocity-limits spline-lawful s ps (k .limits) (k .light) in
+      let v = velocity-limits spline-lawful s ps (k .limits) (k .accepted .forces) in
       ap (λ a. andThen (andThen a (λ qs. andThen (velocityChecks (s .nx * s .ny) (u alongX) (u alongY)) (λ _. result qs))) (λ qs. moveAnswer (s .nx) (s .ny) (u alongX) (u alongY) qs))
       (entry-is (Two (length (u alongX)) (length (u alongY))) (ap₂ _&&_ (eq-eqb (length (u alongX)) (s .nx * s .ny) (v alongX .count)) (eq-eqb (length (u alongY)) (s .nx * s .ny) (v alongY .count))))
       ∙ ap (λ a. andThen (andThen a (λ _. result ps)) (λ qs. moveAnswer (s .nx) (s .ny) (u alongX) (u alongY) qs)) (velocities-pass (v alongX) (v alongY))
@@ -102,25 +107,25 @@ module _ (s : Settings) (records : List ℕ) (lent : Grids) {ps : List Particle}
     unfolding momentaBy
     py-is = ap (λ g. g .y) (filled .left-is)
 
-    accepted : updateAnswer (s .nx) (s .ny) (s .gx) (s .gy) (c .mass) (c .px) (c .py) ≡ done
+    accepted : updateAnswer s (c .mass) (c .px) (c .py) ≡ done
     accepted = rw (mass-is, px-is, py-is) update-is
 
-    updated : bothAxes (c .ux) (c .uy) ≡ bothAxes (velocities D (s .nx * s .ny) (s .gx) (c .mass) (c .px)) (velocities D (s .nx * s .ny) (s .gy) (c .mass) (c .py))
+    updated : bothAxes (c .ux) (c .uy) ≡ bothAxes (velocities D s alongX (c .mass) (c .px)) (velocities D s alongY (c .mass) (c .py))
     updated =
         c .update .left-is
-        ∙ ap (λ a. either a (λ _. bothAxes (velocities D (s .nx * s .ny) (s .gx) (c .mass) (c .px)) (velocities D (s .nx * s .ny) (s .gy) (c .mass) (c .py))) (λ n k. bothAxes (c .px) (c .py))) accepted
+        ∙ ap (λ a. either a (λ _. bothAxes (velocities D s alongX (c .mass) (c .px)) (velocities D s alongY (c .mass) (c .py))) (λ n k. bothAxes (c .px) (c .py))) accepted
 
     ux-is : c .ux ≡ u alongX
     unfolding velocitiesBy
     ux-is =
         ap (λ g. g .x) updated
-        ∙ ap₂ (velocities D (s .nx * s .ny) (s .gx)) mass-is px-is
+        ∙ ap₂ (velocities D s alongX) mass-is px-is
 
     uy-is : c .uy ≡ u alongY
     unfolding velocitiesBy
     uy-is =
         ap (λ g. g .y) updated
-        ∙ ap₂ (velocities D (s .nx * s .ny) (s .gy)) mass-is py-is
+        ∙ ap₂ (velocities D s alongY) mass-is py-is
 
     moves : Moves (stepOf s ps) records (c .gathered) (c .moved)
     moves =

@@ -1,4 +1,4 @@
--- Document 01, "The step": a step is scatter, update and gather as these operations promise them, one call after the other.
+-- Documents 01 and 02, "The step": a step is scatter, update and gather as these operations promise them, one call after the other.
 -- Assumes nothing.
 use mathlib.Core.Path.{_≡_}
 use mathlib.Core.List.{List}
@@ -23,7 +23,7 @@ pub record ThreeCalls (s : Settings) (records : List ℕ) (lent : Grids) : Type 
   pub updated : Answer Unit
   pub ux : List ℤ
   pub uy : List ℤ
-  pub update : UpdateIs (s .nx) (s .ny) (s .gx) (s .gy) mass px py updated ux uy
+  pub update : UpdateIs s mass px py updated ux uy
   pub gathered : Answer Unit
   pub moved : List ℕ
   pub gather : GatherIs (s .nx) (s .ny) records ux uy gathered moved

@@ -2,6 +2,8 @@
 --     kept-refusal                an answer whose value is changed is refused as the answer is
 --     and-true, within-both, both-within, Long, long-three     the tests as facts
 --     count-fits                  the number of nodes is a machine number
+--     bad-gravity .. good-forces, passed-forces, forces-pass, forces-first
+--                                 gravity, edge and drag, by their tests
 --     bad-size .. too-many, begins     the answer before the set, by its tests
 --     Passed, passed-checks       what is known where it is done
 --     Accepted, accepted          what is known where the set is accepted too
@@ -21,14 +23,15 @@ use borrow.Author.Tests.{eqb-true, eq-eqb, le-leb, leb-true, lt-ltb, le-ltb, ltb
 use Rattle.refusal.specs.Refused.{Answer, result, refused, refuseIf, andThen, done}
 use Rattle.refusal.proofs.Answers.{not-refused, same-refusal, passed, went-on}
 use Rattle.particle.specs.declared.Particle.{Particle}
-use Rattle.limits.specs.Limits.{mostGravity, mostSteps}
+use Rattle.limits.specs.Limits.{mostGravity, mostDrag, mostSteps}
 use Rattle.particles.specs.Set.{validSize, validLength, recordCount, setOf, setAnswer}
 use Rattle.particles.proofs.Checks.{size-limits, good-entry, entered}
 use Rattle.settings.specs.declared.Settings.{Settings}
+use Rattle.settings.specs.Settings.{validEdge, ForceLimits}
 use Rattle.entry.specs.declared.Buffers.{Buffers}
 use Rattle.entry.specs.declared.Buffers.the-variants.{Three}
 use Rattle.entry.specs.Checks.{areLong, bothWithin}
-use Rattle.entry.specs.Entry.{beginAnswer, entryAnswer}
+use Rattle.entry.specs.Entry.{checkedForces, beginAnswer, entryAnswer}
 
 -- ---- answers
 
@@ -69,52 +72,110 @@ count-fits nx ny e =
     let s = size-limits nx ny e in
     record { fits = lt-of-le-of-lt (mul-le-mul (s .x-most) (s .y-most)) (lit< tt) }
 
+-- ---- gravity, edge and drag
+
+module _ (s : Settings) where
+  by-force : {a b c : Bool} (rest : Answer Unit) → bothWithin mostGravity (s .gx) (s .gy) ≡ a → validEdge (s .edge) ≡ b → ltb mostDrag (s .drag) ≡ c → checkedForces s rest ≡ refuseIf (not a) 10 0 (refuseIf (not b) 18 0 (refuseIf c 19 0 rest))
+  unfolding checkedForces
+  by-force rest p q r = rw (p, q, r)
+
+  pub bad-gravity : (rest : Answer Unit) → bothWithin mostGravity (s .gx) (s .gy) ≡ false → checkedForces s rest ≡ refused 10 0
+  bad-gravity rest p = by-force rest p refl refl
+
+  pub bad-edge : (rest : Answer Unit) → bothWithin mostGravity (s .gx) (s .gy) ≡ true → validEdge (s .edge) ≡ false → checkedForces s rest ≡ refused 18 0
+  bad-edge rest p q = by-force rest p q refl
+
+  pub bad-drag : (rest : Answer Unit) → bothWithin mostGravity (s .gx) (s .gy) ≡ true → validEdge (s .edge) ≡ true → mostDrag < s .drag → checkedForces s rest ≡ refused 19 0
+  bad-drag rest p q r = by-force rest p q (lt-ltb mostDrag (s .drag) r)
+
+  pub good-forces : (rest : Answer Unit) → bothWithin mostGravity (s .gx) (s .gy) ≡ true → validEdge (s .edge) ≡ true → s .drag ≤ mostDrag → checkedForces s rest ≡ rest
+  good-forces rest p q r = by-force rest p q (le-ltb mostDrag (s .drag) r)
+
+  pub passed-forces : (rest : Answer Unit) {t : Unit} → checkedForces s rest ≡ result t → ForceLimits s × (rest ≡ result t)
+  unfolding checkedForces
+  passed-forces rest e =
+      let light = passed (not (bothWithin mostGravity (s .gx) (s .gy))) 10 0 _ e in
+      let edge = passed (not (validEdge (s .edge))) 18 0 _ (light .1) in
+      let slow = passed (ltb mostDrag (s .drag)) 19 0 rest (edge .1) in
+      let g = within-both mostGravity (s .gx) (s .gy) (not-false (bothWithin mostGravity (s .gx) (s .gy)) (light .0)) in (
+        record {
+          gravity-x = g .0;
+          gravity-y = g .1;
+          edge = not-false (validEdge (s .edge)) (edge .0);
+          drag = ltb-false mostDrag (s .drag) (slow .0);
+        },
+        slow .1,
+      )
+
+  pub forces-pass : ForceLimits s → (rest : Answer Unit) → checkedForces s rest ≡ rest
+  forces-pass f rest =
+      good-forces rest (both-within mostGravity (s .gx) (s .gy) (f .gravity-x) (f .gravity-y)) (f .edge) (f .drag)
+
+  -- the checks alone decide, whatever comes after them
+  pub forces-first : (rest : Answer Unit) → checkedForces s rest ≡ andThen (checkedForces s done) (λ _. rest)
+  unfolding checkedForces
+  forces-first rest = go (not (bothWithin mostGravity (s .gx) (s .gy))) (not (validEdge (s .edge))) (ltb mostDrag (s .drag))
+    where
+      go : (a b c : Bool) → refuseIf a 10 0 (refuseIf b 18 0 (refuseIf c 19 0 rest)) ≡ andThen (refuseIf a 10 0 (refuseIf b 18 0 (refuseIf c 19 0 done))) (λ _. rest)
+      go true b c = refl
+      go false true c = refl
+      go false false true = refl
+      go false false false = refl
+
 -- ---- before the set
 
 module _ (s : Settings) (buffers : Buffers) (steps bytes : ℕ) where
-  by-tests : {a b c d e : Bool} → validSize (s .nx) (s .ny) ≡ a → validLength bytes ≡ b → areLong (s .nx * s .ny) buffers ≡ c → bothWithin mostGravity (s .gx) (s .gy) ≡ d → ltb mostSteps steps ≡ e → beginAnswer s buffers steps bytes ≡ refuseIf (not a) 2 0 (refuseIf (not b) 1 0 (refuseIf (not c) 1 0 (refuseIf (not d) 10 0 (refuseIf e 17 0 done))))
+  -- the checks after the lengths
+  abbrev pub further : Answer Unit
+  further = checkedForces s (refuseIf (ltb mostSteps steps) 17 0 done)
+
+  by-tests : {a b c : Bool} → validSize (s .nx) (s .ny) ≡ a → validLength bytes ≡ b → areLong (s .nx * s .ny) buffers ≡ c → beginAnswer s buffers steps bytes ≡ refuseIf (not a) 2 0 (refuseIf (not b) 1 0 (refuseIf (not c) 1 0 further))
   unfolding beginAnswer
-  by-tests p q r t u = rw (p, q, r, t, u)
+  by-tests p q r = rw (p, q, r)
 
   pub bad-size : validSize (s .nx) (s .ny) ≡ false → beginAnswer s buffers steps bytes ≡ refused 2 0
-  bad-size p = by-tests p refl refl refl refl
+  bad-size p = by-tests p refl refl
 
   pub bad-length : validSize (s .nx) (s .ny) ≡ true → validLength bytes ≡ false → beginAnswer s buffers steps bytes ≡ refused 1 0
-  bad-length p q = by-tests p q refl refl refl
+  bad-length p q = by-tests p q refl
 
   pub bad-lengths : validSize (s .nx) (s .ny) ≡ true → validLength bytes ≡ true → areLong (s .nx * s .ny) buffers ≡ false → beginAnswer s buffers steps bytes ≡ refused 1 0
-  bad-lengths p q r = by-tests p q r refl refl
+  bad-lengths p q r = by-tests p q r
 
-  pub bad-gravity : validSize (s .nx) (s .ny) ≡ true → validLength bytes ≡ true → areLong (s .nx * s .ny) buffers ≡ true → bothWithin mostGravity (s .gx) (s .gy) ≡ false → beginAnswer s buffers steps bytes ≡ refused 10 0
-  bad-gravity p q r t = by-tests p q r t refl
-
-  -- past the first four checks
+  -- the sizes and lengths are right
   pub record Passed : Type 0 where
     pub size : validSize (s .nx) (s .ny) ≡ true
     pub whole : validLength bytes ≡ true
     pub long : areLong (s .nx * s .ny) buffers ≡ true
-    pub light : bothWithin mostGravity (s .gx) (s .gy) ≡ true
 
-  pub too-many : Passed → mostSteps < steps → beginAnswer s buffers steps bytes ≡ refused 17 0
-  too-many h e = by-tests (h .size) (h .whole) (h .long) (h .light) (lt-ltb mostSteps steps e)
+  pub bad-forces : Passed → {n k : ℕ} → checkedForces s done ≡ refused n k → beginAnswer s buffers steps bytes ≡ refused n k
+  bad-forces h e = by-tests (h .size) (h .whole) (h .long) ∙ forces-first s _ ∙ ap (λ a. andThen a (λ _. refuseIf (ltb mostSteps steps) 17 0 done)) e
 
-  pub begins : Passed → steps ≤ mostSteps → beginAnswer s buffers steps bytes ≡ done
-  begins h e = by-tests (h .size) (h .whole) (h .long) (h .light) (le-ltb mostSteps steps e)
+  by-steps : {b : Bool} → Passed → checkedForces s done ≡ done → ltb mostSteps steps ≡ b → beginAnswer s buffers steps bytes ≡ refuseIf b 17 0 done
+  by-steps h f e =
+      by-tests (h .size) (h .whole) (h .long) ∙ forces-first s _
+      ∙ ap₂ (λ a b. andThen a (λ _. refuseIf b 17 0 done)) f e
 
-  pub passed-checks : {t : Unit} → beginAnswer s buffers steps bytes ≡ result t → Passed × (steps ≤ mostSteps)
+  pub too-many : Passed → checkedForces s done ≡ done → mostSteps < steps → beginAnswer s buffers steps bytes ≡ refused 17 0
+  too-many h f e = by-steps h f (lt-ltb mostSteps steps e)
+
+  pub begins : Passed → checkedForces s done ≡ done → steps ≤ mostSteps → beginAnswer s buffers steps bytes ≡ done
+  begins h f e = by-steps h f (le-ltb mostSteps steps e)
+
+  pub passed-checks : {t : Unit} → beginAnswer s buffers steps bytes ≡ result t → Passed × ForceLimits s × (steps ≤ mostSteps)
   unfolding beginAnswer
   passed-checks e =
       let size = passed (not (validSize (s .nx) (s .ny))) 2 0 _ e in
       let whole = passed (not (validLength bytes)) 1 0 _ (size .1) in
       let long = passed (not (areLong (s .nx * s .ny) buffers)) 1 0 _ (whole .1) in
-      let light = passed (not (bothWithin mostGravity (s .gx) (s .gy))) 10 0 _ (long .1) in
-      let few = passed (ltb mostSteps steps) 17 0 done (light .1) in (
+      let forces = passed-forces s (refuseIf (ltb mostSteps steps) 17 0 done) (long .1) in
+      let few = passed (ltb mostSteps steps) 17 0 done (forces .1) in (
         record {
           size = not-false (validSize (s .nx) (s .ny)) (size .0);
           whole = not-false (validLength bytes) (whole .0);
           long = not-false (areLong (s .nx * s .ny) buffers) (long .0);
-          light = not-false (bothWithin mostGravity (s .gx) (s .gy)) (light .0);
         },
+        forces .0,
         ltb-false mostSteps steps (few .0),
       )
 
@@ -123,8 +184,7 @@ module _ (s : Settings) (buffers : Buffers) (steps bytes : ℕ) where
 pub record Accepted (s : Settings) (buffers : Buffers) (steps : ℕ) (records : List ℕ) (ps : List Particle) : Type 0 where
   pub set : setAnswer (s .nx) (s .ny) records ≡ result ps
   pub long : areLong (s .nx * s .ny) buffers ≡ true
-  pub gravity-x : natAbs (s .gx) ≤ mostGravity
-  pub gravity-y : natAbs (s .gy) ≤ mostGravity
+  pub forces : ForceLimits s
   pub few : steps ≤ mostSteps
 
 module _ (s : Settings) (buffers : Buffers) (steps : ℕ) (records : List ℕ) where
@@ -138,13 +198,11 @@ module _ (s : Settings) (buffers : Buffers) (steps : ℕ) (records : List ℕ) w
       let w = went-on (beginAnswer s buffers steps (length records)) _ e in
       let checks = passed-checks s buffers steps (length records) (w .1) in
       let p = checks .0 in
-      let g = within-both mostGravity (s .gx) (s .gy) (p .light) in
       record {
         set = good-entry (s .nx) (s .ny) records (p .size) (p .whole) ∙ w .2;
         long = p .long;
-        gravity-x = g .0;
-        gravity-y = g .1;
-        few = checks .1;
+        forces = checks .1;
+        few = checks .2;
       }
 
   pub enters : {ps : List Particle} → Accepted s buffers steps records ps → entryAnswer s buffers steps records ≡ result ps
@@ -156,7 +214,7 @@ module _ (s : Settings) (buffers : Buffers) (steps : ℕ) (records : List ℕ) w
         size = w .size;
         whole = w .whole;
         long = a .long;
-        light = both-within mostGravity (s .gx) (s .gy) (a .gravity-x) (a .gravity-y);
       })
+      (forces-pass s (a .forces) done)
       (a .few))
       ∙ w .set

@@ -1,6 +1,7 @@
-// The checks that an operation begins with, in document 01's order.
+// The checks that an operation begins with, in the order of documents 01 and 02.
 pub mod checks;
 
+use limits::MOST_DRAG;
 use limits::MOST_STEPS;
 use particle::RECORD_LENGTH;
 use particles::Checked;
@@ -8,9 +9,9 @@ use refusal::Refusal;
 use settings::Settings;
 ghost use mathlib.Core.Path.{_≡_};
 ghost use lib.ListN.{length};
-ghost use Rattle.refusal.specs.Refused.{result, andThen};
+ghost use Rattle.refusal.specs.Refused.{result, andThen, done};
 ghost use Rattle.particles.specs.Set.{toldChecked};
-ghost use Rattle.entry.specs.Entry.{toldBegun, beginAnswer, entryAnswer};
+ghost use Rattle.entry.specs.Entry.{toldBegun, checkedForces, beginAnswer, entryAnswer};
 
 // The lengths of the grid buffers that a call is lent.
 pub enum Buffers {
@@ -23,6 +24,23 @@ pub enum Buffers {
 pub enum Begun {
     Done,
     Refused(Refusal),
+}
+
+// Gravity, edge and drag.
+fn check_forces(settings: Settings) -> Begun
+    ensures { λ r. ⌜ toldBegun r ≡ checkedForces settings done ⌝ }
+{
+    if !checks::gravity_in_range(settings.gx, settings.gy) {
+        return Begun::Refused(Refusal::Gravity);
+    }
+    let edge = settings.edge;
+    if !settings::edge_is_valid(edge) {
+        return Begun::Refused(Refusal::Edge);
+    }
+    if MOST_DRAG < settings.drag {
+        return Begun::Refused(Refusal::Drag);
+    }
+    Begun::Done
 }
 
 // The checks before the set, whose records have so many bytes.
@@ -40,8 +58,9 @@ pub fn begin(settings: Settings, buffers: Buffers, steps: usize, bytes: usize) -
     if !checks::are_long(nx * ny, buffers) {
         return Begun::Refused(Refusal::Length);
     }
-    if !checks::gravity_in_range(settings.gx, settings.gy) {
-        return Begun::Refused(Refusal::Gravity);
+    match check_forces(settings) {
+        Begun::Refused(refusal) => return Begun::Refused(refusal),
+        Begun::Done => {}
     }
     if MOST_STEPS < steps {
         return Begun::Refused(Refusal::Steps);

@@ -6,37 +6,38 @@ use particle::RECORD_LENGTH;
 use particles::Checked;
 use refusal::Refusal;
 ghost use mathlib.Core.Path.{_≡_};
-ghost use lib.IntN.{natAbs};
 ghost use lib.ListN.{length};
 ghost use Rattle.refusal.specs.Refused.{result};
-ghost use Rattle.bath_file.specs.Layout.{headerLength, spare, held};
-ghost use Rattle.bath_file.specs.File.{headerIn, checkedHeader, headerAnswer, recordsAnswer, fileAnswer, toldRead};
+ghost use Rattle.bath_file.specs.Layout.{headerLength};
+ghost use Rattle.bath_file.specs.File.{headerIn, checkedHeader, spareIsZero, headerAnswer, recordsAnswer, fileAnswer, toldRead};
 
-// The header that bytes of its length hold, from a word of eight bytes and one byte more: the low bits of the steps are in
-// that one.
+// The header that bytes of its length hold: two words of eight bytes, the second from the fourth byte on, and the fields from them.
 // `read_header` calls it with as many.
 fn unpack(bytes: &[u8]) -> Header
     requires { ⌜ length (now bytes) ≡ headerLength ⌝ }
     ensures { λ r. ⌜ r ≡ headerIn (now (bytes .entry)) ⌝ }
 {
     let first = bits::word(bytes, 0);
-    let last = bytes[8];
+    let second = bits::word(bytes, 3);
     Header {
         nx: bits::low(first / 288230376151711744) as usize,
         ny: (bits::low(first / 4503599627370496) % 64) as usize,
         gx: bits::signed_low(bits::low(first / 274877906944), 14),
         gy: bits::signed_low(bits::low(first / 16777216), 14),
         count: (bits::low(first / 2048) % 8192) as usize,
-        steps: (bits::low(first % 2048 * 8) + (last / 32) as u16) as usize,
+        steps: (bits::low(second / 2097152) % 16384) as usize,
+        kind: (bits::low(second / 16384) % 4) as usize,
+        width: (bits::low(second / 4096) % 4) as usize,
+        drag: (bits::low(second / 16) % 256) as usize,
     }
 }
 
-// The spare bits of a header, as a number. `read_header` calls it with as many.
-fn spare_bits(bytes: &[u8]) -> u16
+// No spare bit of a header is set, neither after the steps nor after drag. `read_header` calls it with as many bytes.
+fn spare_is_zero(bytes: &[u8]) -> bool
     requires { ⌜ length (now bytes) ≡ headerLength ⌝ }
-    ensures { λ r. ⌜ r ≡ natAbs (held spare (now (bytes .entry))) ⌝ }
+    ensures { λ r. ⌜ r ≡ spareIsZero (now (bytes .entry)) ⌝ }
 {
-    (bytes[8] % 32) as u16
+    bytes[8] % 32 == 0 && bytes[10] % 16 == 0
 }
 
 // The header of a file of any length, without its records.
@@ -50,7 +51,7 @@ pub fn read_header(bytes: &[u8]) -> FileRead
     match header_check::check_values(unpack(header)) {
         FileRead::Refused(refusal) => FileRead::Refused(refusal),
         FileRead::Accepted(h) => {
-            if spare_bits(header) != 0 {
+            if !spare_is_zero(header) {
                 return FileRead::Refused(Refusal::SpareBits);
             }
             FileRead::Accepted(h)

@@ -5,13 +5,14 @@ use lib.IntN.{ℤ}
 use lib.ListN.{length, take, drop}
 use Rattle.limits.specs.Limits.{mostSide}
 use Rattle.settings.specs.declared.Settings.{Settings}
+use Rattle.settings.specs.Settings.{settingsWith}
 use Rattle.apic.specs.Step.{Grids, gridsOf}
 use Rattle.simulation.specs.Step.{After}
 use Rattle.simulation.specs.Run.{Completion, runAfter}
 use Rattle.bath_file.specs.declared.Header.{Header}
 
 abbrev pub settingsFor : Header → Settings
-settingsFor h = record { nx = h .nx; ny = h .ny; gx = h .gx; gy = h .gy }
+settingsFor h = settingsWith (h .nx) (h .ny) (h .gx) (h .gy) (h .kind) (h .width) (h .drag)
 
 -- Nx·Ny
 abbrev pub nodeCount : Header → ℕ

@@ -18,12 +18,9 @@ pub const MOST_NODES: usize = MOST_SIDE * MOST_SIDE;
 fn settings_of(h: Header) -> Settings
     ensures { λ r. ⌜ r ≡ settingsFor h ⌝ }
 {
-    Settings {
-        nx: h.nx,
-        ny: h.ny,
-        gx: bits::signed(h.gx),
-        gy: bits::signed(h.gy),
-    }
+    let gx = bits::signed(h.gx);
+    let gy = bits::signed(h.gy);
+    settings::of_numbers(h.nx, h.ny, gx, gy, h.kind, h.width, h.drag)
 }
 
 // The number of nodes of a grid. `run_records` calls it with sizes in range.

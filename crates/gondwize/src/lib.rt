@@ -6,7 +6,6 @@ use particle::NUMBERS;
 use particle::Read;
 use particle::Written;
 use particles::Checked;
-use settings::Settings;
 use simulation::Stepped;
 use spline::Weighed;
 use totals::Totalled;
@@ -27,7 +26,8 @@ ghost use Rattle.bath_file.specs.File.{fileAnswer};
 ghost use Rattle.bath_file.specs.File as file;
 ghost use Rattle.wide.specs.Values.{weightValues, sums, settings, particleWith, headerWith};
 ghost use Rattle.coding.specs.Coded.{coded, Gives, Tells};
-ghost use Rattle.coding.specs.Runs.{RunTells, settingsWith};
+ghost use Rattle.settings.specs.Settings.{settingsWith};
+ghost use Rattle.coding.specs.Runs.{RunTells};
 
 // Read a record: ten values.
 #[no_mangle]
@@ -142,15 +142,19 @@ pub extern "C" fn gondwize_update(
     ny: usize,
     gx: i64,
     gy: i64,
+    kind: usize,
+    width: usize,
+    drag: usize,
     mass: &[u64],
     px: &mut [i64],
     py: &mut [i64],
 ) -> u64
-    ensures { λ r. ⌜ Tells (λ told. UpdateIs nx ny gx gy
+    ensures { λ r. ⌜ Tells (λ told. UpdateIs (settingsWith nx ny gx gy kind width drag)
         (now (mass .entry)) (now (px .entry)) (now (py .entry)) told
         (now (px .exit)) (now (py .exit))) r ⌝ }
 {
-    match update_grid::update(nx, ny, gx, gy, mass, px, py) {
+    let settings = settings::of_numbers(nx, ny, gx, gy, kind, width, drag);
+    match update_grid::update(settings, mass, px, py) {
         Updated::Refused(refusal) => answer::code(refusal),
         Updated::Done => 0,
     }
@@ -182,16 +186,20 @@ pub extern "C" fn gondwize_step(
     ny: usize,
     gx: i64,
     gy: i64,
+    kind: usize,
+    width: usize,
+    drag: usize,
     records: &mut [u8],
     mass: &mut [u64],
     px: &mut [i64],
     py: &mut [i64],
 ) -> u64
-    ensures { λ r. ⌜ Tells (λ told. Sees (stepAfter (settingsWith nx ny gx gy)
+    ensures { λ r. ⌜ Tells (λ told. Sees (stepAfter (settingsWith nx ny gx gy kind width drag)
         (now (records .entry)) (gridsOf (now (mass .entry)) (now (px .entry)) (now (py .entry)))) told
         (now (records .exit)) (now (mass .exit)) (now (px .exit)) (now (py .exit))) r ⌝ }
 {
-    match run::step(Settings { nx, ny, gx, gy }, records, mass, px, py) {
+    let settings = settings::of_numbers(nx, ny, gx, gy, kind, width, drag);
+    match run::step(settings, records, mass, px, py) {
         Stepped::Refused(refusal) => answer::code(refusal),
         Stepped::Done => 0,
     }
@@ -204,6 +212,9 @@ pub extern "C" fn gondwize_run(
     ny: usize,
     gx: i64,
     gy: i64,
+    kind: usize,
+    width: usize,
+    drag: usize,
     steps: usize,
     records: &mut [u8],
     mass: &mut [u64],
@@ -211,14 +222,28 @@ pub extern "C" fn gondwize_run(
     py: &mut [i64],
     completed: &mut u64,
 ) -> u64
-    ensures { λ r. ⌜ RunTells (settingsWith nx ny gx gy) steps
+    ensures { λ r. ⌜ RunTells (settingsWith nx ny gx gy kind width drag) steps
         (now (records .entry)) (gridsOf (now (mass .entry)) (now (px .entry)) (now (py .entry))) r
         (now (records .exit)) (now (mass .exit)) (now (px .exit)) (now (py .exit)) (now (completed .exit)) ⌝ }
 {
-    coding::run_told(nx, ny, gx, gy, steps, records, mass, px, py, completed)
+    coding::run_told(
+        nx,
+        ny,
+        gx,
+        gy,
+        kind,
+        width,
+        drag,
+        steps,
+        records,
+        mass,
+        px,
+        py,
+        completed,
+    )
 }
 
-// Read a file: six values.
+// Read a file: nine values.
 #[no_mangle]
 pub extern "C" fn gondwize_read_file(bytes: &[u8], values: &mut [i64; wide::SETTINGS]) -> u64
     ensures { λ r. ⌜ Gives (fileAnswer (now (bytes .entry))) settings (now (values .entry)) r (now (values .exit)) ⌝ }
@@ -241,12 +266,15 @@ pub extern "C" fn gondwize_write_header(
     gy: i64,
     count: usize,
     steps: usize,
+    kind: usize,
+    width: usize,
+    drag: usize,
     bytes: &mut [u8],
 ) -> u64
-    ensures answer { λ r. ⌜ r ≡ coded (file.writeAnswer (headerWith nx ny gx gy count steps) (now (bytes .entry))) ⌝ }
-    ensures buffer { λ _. ⌜ now (bytes .exit) ≡ file.written (headerWith nx ny gx gy count steps) (now (bytes .entry)) ⌝ }
+    ensures answer { λ r. ⌜ r ≡ coded (file.writeAnswer (headerWith nx ny gx gy count steps kind width drag) (now (bytes .entry))) ⌝ }
+    ensures buffer { λ _. ⌜ now (bytes .exit) ≡ file.written (headerWith nx ny gx gy count steps kind width drag) (now (bytes .entry)) ⌝ }
 {
-    let h = wide::header(nx, ny, gx, gy, count, steps);
+    let h = wide::header(nx, ny, gx, gy, count, steps, kind, width, drag);
     match header_writer::write_header(h, bytes) {
         HeaderWritten::Refused(refusal) => answer::code(refusal),
         HeaderWritten::Done => 0,

@@ -2,6 +2,7 @@
 use bath_file::FileRead;
 use bath_file::Header;
 use limits::LEAST_GRAVITY;
+use limits::MOST_DRAG;
 use limits::MOST_GRAVITY;
 use limits::MOST_RECORDS;
 use limits::MOST_STEPS;
@@ -17,8 +18,16 @@ pub fn check_values(h: Header) -> FileRead
     if !particles::size_is_valid(h.nx, h.ny) {
         return FileRead::Refused(Refusal::GridSize);
     }
-    if !limits::both_between(h.gx, h.gy, LEAST_GRAVITY, MOST_GRAVITY) {
+    let gravity = limits::both_between(h.gx, h.gy, LEAST_GRAVITY, MOST_GRAVITY);
+    let edge = settings::edge_is_valid(settings::edge_of(h.kind, h.width));
+    if !gravity {
         return FileRead::Refused(Refusal::Gravity);
+    }
+    if !edge {
+        return FileRead::Refused(Refusal::Edge);
+    }
+    if MOST_DRAG < h.drag {
+        return FileRead::Refused(Refusal::Drag);
     }
     if MOST_RECORDS < h.count {
         return FileRead::Refused(Refusal::Count);

@@ -9,7 +9,7 @@ use Rattle.bath_file.specs.declared.Header.{Header}
 use Rattle.bath_file.specs.Layout.{layout}
 use Rattle.bath_file.specs.File.{headerOf}
 
-module _ (h : Header) {gx gy : ℕ} {bytes : List ℕ} (put : bytes ≡ filled layout (h .nx ∷ h .ny ∷ gx ∷ gy ∷ h .count ∷ h .steps ∷ 0 ∷ [])) where
+module _ (h : Header) {gx gy : ℕ} {bytes : List ℕ} (put : bytes ≡ filled layout (h .nx ∷ h .ny ∷ gx ∷ gy ∷ h .count ∷ h .steps ∷ 0 ∷ h .kind ∷ h .width ∷ h .drag ∷ 0 ∷ [])) where
   pub header-of-parts : gx ≡ residue 16384 (h .gx) → gy ≡ residue 16384 (h .gy) → bytes ≡ headerOf h
   unfolding headerOf
-  header-of-parts ex ey = put ∙ ap (filled layout) (λ i. h .nx ∷ h .ny ∷ ex i ∷ ey i ∷ h .count ∷ h .steps ∷ 0 ∷ [])
+  header-of-parts ex ey = put ∙ ap (filled layout) (λ i. h .nx ∷ h .ny ∷ ex i ∷ ey i ∷ h .count ∷ h .steps ∷ 0 ∷ h .kind ∷ h .width ∷ h .drag ∷ 0 ∷ [])

@@ -13,11 +13,22 @@ ghost use Rattle.bits.specs.Layout.{widths, filled};
 ghost use Rattle.bath_file.specs.Layout.{layout, headerLength};
 ghost use Rattle.bath_file.specs.File.{headerOf, checkedHeader, writeAnswer, written, toldWritten};
 
-// Writes the header with these parts in its fields, and no spare bit set, as a word of eight bytes and one byte more. `pack`
-// calls it with parts that the fields hold.
-fn put(nx: u16, ny: u16, gx: u16, gy: u16, count: u16, steps: u16, bytes: &mut [u8])
-    requires { ⌜ Below (widths layout) (nx ∷ ny ∷ gx ∷ gy ∷ count ∷ steps ∷ 0 ∷ []) × (length (now bytes) ≡ headerLength) ⌝ }
-    ensures { λ _. ⌜ now (bytes .exit) ≡ filled layout (nx ∷ ny ∷ gx ∷ gy ∷ count ∷ steps ∷ 0 ∷ []) ⌝ }
+// Writes the header with these parts in its fields, and no spare bit set, as two words: the second starts with the first one's last
+// five bytes. `pack` calls it with parts that the fields hold.
+fn put(
+    nx: u16,
+    ny: u16,
+    gx: u16,
+    gy: u16,
+    count: u16,
+    steps: u16,
+    kind: u16,
+    width: u16,
+    drag: u16,
+    bytes: &mut [u8],
+)
+    requires { ⌜ Below (widths layout) (nx ∷ ny ∷ gx ∷ gy ∷ count ∷ steps ∷ 0 ∷ kind ∷ width ∷ drag ∷ 0 ∷ []) × (length (now bytes) ≡ headerLength) ⌝ }
+    ensures { λ _. ⌜ now (bytes .exit) ≡ filled layout (nx ∷ ny ∷ gx ∷ gy ∷ count ∷ steps ∷ 0 ∷ kind ∷ width ∷ drag ∷ 0 ∷ []) ⌝ }
 {
     let first = nx as u64 * 288230376151711744
         + ny as u64 * 4503599627370496
@@ -25,8 +36,13 @@ fn put(nx: u16, ny: u16, gx: u16, gy: u16, count: u16, steps: u16, bytes: &mut [
         + gy as u64 * 16777216
         + count as u64 * 2048
         + (steps / 8) as u64;
+    let second = (steps % 8) as u64 * 2097152
+        + kind as u64 * 16384
+        + width as u64 * 4096
+        + drag as u64 * 16;
+    // The first word takes the place of the second one's five highest bytes.
+    bits::put_word(second, bytes, 3);
     bits::put_word(first, bytes, 0);
-    bytes[8] = (steps % 8 * 32) as u8;
 }
 
 // Writes the bytes that hold a header. `write_header` calls it with a header that it accepts.
@@ -43,6 +59,9 @@ fn pack(h: Header, bytes: &mut [u8])
         gy,
         h.count as u16,
         h.steps as u16,
+        h.kind as u16,
+        h.width as u16,
+        h.drag as u16,
         bytes,
     );
 }

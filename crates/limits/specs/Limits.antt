@@ -1,9 +1,10 @@
--- Document 01's limits ("Units" and "Records") by name, and the tests for them.
+-- The limits of document 01 ("Units" and "Records") and of document 02 by name, and the tests for them.
 --     leastSide, mostSide         nodes along an axis
 --     leastMass, mostMass, mostVelocity, mostAffine, mostPosition     the numbers of one particle
 --     mostRecords, mostTotalMass  a set of them
 --     mostNodeMass, mostNodeVelocity     a node
 --     mostGravity, mostSteps      what a run is asked for
+--     leastWidth, mostWidth, mostDrag     the edge's band, and drag
 --     between, isℤ, valid..       a number is within its limits
 -- Assumes nothing.
 use Prim.Native.Nat.{ℕ, _^_}
@@ -51,6 +52,15 @@ mostGravity = 4096
 abbrev pub mostSteps : ℕ
 mostSteps = 10000
 
+abbrev pub leastWidth : ℕ
+leastWidth = 1
+
+abbrev pub mostWidth : ℕ
+mostWidth = 3
+
+abbrev pub mostDrag : ℕ
+mostDrag = 255
+
 abbrev pub between : ℤ → ℤ → ℤ → Bool
 between low high z = leZ low z && leZ z high
 
@@ -75,3 +85,6 @@ validPosition a = leb a mostPosition
 
 abbrev pub validGravity : ℤ → Bool
 validGravity g = within mostGravity g
+
+abbrev pub validWidth : ℕ → Bool
+validWidth w = leb leastWidth w && leb w mostWidth

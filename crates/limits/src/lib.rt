@@ -1,4 +1,4 @@
-// Document 01's limits ("Units" and "Records") by name, and the tests against them.
+// The limits of document 01 ("Units" and "Records") and of document 02 by name, and the tests against them.
 ghost use mathlib.Core.Path.{_≡_};
 ghost use mathlib.Core.Bool.{_&&_, _||_};
 ghost use Rattle.limits.specs.Limits.{between, isℤ, validMass, validPosition};
@@ -39,6 +39,13 @@ pub const MOST_GRAVITY: i16 = 4096;
 pub const LEAST_GRAVITY: i16 = -MOST_GRAVITY;
 
 pub const MOST_STEPS: usize = 10000;
+
+// The width of an edge that has a band, in nodes, and drag in 256ths of a velocity per step.
+pub const LEAST_WIDTH: usize = 1;
+
+pub const MOST_WIDTH: usize = 3;
+
+pub const MOST_DRAG: usize = 255;
 
 fn between(value: i16, low: i16, high: i16) -> bool
     ensures { λ r. ⌜ r ≡ between low high value ⌝ }

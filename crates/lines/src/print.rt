@@ -84,7 +84,7 @@ pub fn totals(list: &[i64; 5]) {
     integers(b'v', list);
 }
 
-pub fn header(list: &[i64; 6]) {
+pub fn header(list: &[i64; 9]) {
     integers(b'v', list);
 }
 

@@ -5,7 +5,7 @@ use mathlib.Core.Path.{_≡_}
 use Prim.Native.Nat.{ℕ, zero, suc}
 use mathlib.Core.Bool.{Bool, true, false}
 use Rattle.refusal.specs.declared.Refusal.{Refusal}
-use Rattle.refusal.specs.declared.Refusal.the-variants.{Length, GridSize, Count, Mass, Velocity, Affine, Position, Identifier, TotalMass, Gravity, NodeMass, NodeVelocity, NewVelocity, NewAffine, NewPosition, SpareBits, Steps}
+use Rattle.refusal.specs.declared.Refusal.the-variants.{Length, GridSize, Count, Mass, Velocity, Affine, Position, Identifier, TotalMass, Gravity, NodeMass, NodeVelocity, NewVelocity, NewAffine, NewPosition, SpareBits, Steps, Edge, Drag}
 
 pub data Answer (A : Type 0) : Type 0 where
   result : A → Answer A
@@ -29,6 +29,8 @@ number (NewAffine k) = 14
 number (NewPosition k) = 15
 number SpareBits = 16
 number Steps = 17
+number Edge = 18
+number Drag = 19
 
 abbrev pub place : Refusal → ℕ
 place Length = 0
@@ -48,6 +50,8 @@ place (NewAffine k) = k
 place (NewPosition k) = k
 place SpareBits = 0
 place Steps = 0
+place Edge = 0
+place Drag = 0
 
 -- a refusal as document 01 tells it
 abbrev pub refusedBy : {A : Type 0} → Refusal → Answer A

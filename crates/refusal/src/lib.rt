@@ -1,4 +1,4 @@
-// Why a call is refused: one case for each number of document 01's list, with the record or node where that list gives a place.
+// Why a call is refused: one case for each number of the lists of documents 01 and 02, with the record or node where that list gives a place.
 ghost use mathlib.Core.Path.{_≡_};
 ghost use Rattle.refusal.specs.Refused.{number, place};
 
@@ -37,9 +37,13 @@ pub enum Refusal {
     SpareBits,
     // 17: more than 10,000 steps
     Steps,
+    // 18: an edge of no kind, or a width that its kind does not have
+    Edge,
+    // 19: drag above 255
+    Drag,
 }
 
-// The number of a refusal in document 01's list.
+// The number of a refusal in these lists.
 pub fn number_of(refusal: Refusal) -> u8
     ensures { λ r. ⌜ r ≡ number refusal ⌝ }
 {
@@ -61,6 +65,8 @@ pub fn number_of(refusal: Refusal) -> u8
         Refusal::NewPosition(_) => 15,
         Refusal::SpareBits => 16,
         Refusal::Steps => 17,
+        Refusal::Edge => 18,
+        Refusal::Drag => 19,
     }
 }
 
@@ -86,5 +92,7 @@ pub fn place_of(refusal: Refusal) -> usize
         Refusal::NewPosition(record) => record,
         Refusal::SpareBits => 0,
         Refusal::Steps => 0,
+        Refusal::Edge => 0,
+        Refusal::Drag => 0,
     }
 }

@@ -8,20 +8,22 @@
 -- Assumes nothing.
 use mathlib.Core.Path.{_≡_, refl, ap, _∙_, subst}
 use mathlib.Core.List.{List, [], _∷_, _++_}
-use Prim.Native.Nat.{ℕ, suc}
+use Prim.Native.Nat.{ℕ, suc, _*_, _^_}
 use native.Mathlib.Omega.{arith}
 use lib.ListN.{length}
 use lib.IntN.{ℤ, pos, _+ℤ_, _-ℤ_, _*ℤ_}
 use Rattle.arith.specs.Order.{Within, linear, reading, _&_, nothing}
+use Rattle.arith.specs.Rounding.{rounded}
 use Rattle.arith.specs.Sums.{Each, sumOver}
 use Rattle.refusal.specs.Refused.{result}
 use Rattle.spline.specs.Spline.{axisWeight, D}
 use Rattle.particle.specs.declared.Particle.{Particle}
-use Rattle.apic.specs.Totals.{totalMass, momentum, angularMomentum, torque, firstMoment}
+use Rattle.apic.specs.Step.{gravity}
+use Rattle.apic.specs.Totals.{totalMass, momentum, angularMomentum, torque, impulse, angularImpulse, firstMoment}
 use Rattle.apic.proofs.Spline.{spline-lawful}
 use Rattle.settings.specs.declared.Settings.{Settings}
-use Rattle.simulation.specs.Step.{gravity, stepped, stepOf}
-use Rattle.simulation.specs.Demand3.{worked, arrives, shareOf, torqueOf, momentOf, Keeps}
+use Rattle.simulation.specs.Step.{stepped, stepOf}
+use Rattle.simulation.specs.Demand3.{worked, arrives, forcingOf, turningOf, momentOf, Keeps}
 use Rattle.simulation.proofs.Steps.{Completed, kept-identifiers, kept-masses, kept-mass, step-linear, step-angular}
 
 abbrev pub Chain : List Settings → List Particle → Type 0
@@ -38,24 +40,24 @@ unfolding arrives
 arrives-append [] ts ps = refl
 arrives-append (s ∷ ss) ts ps = arrives-append ss ts (stepped s ps)
 
--- ---- allowances: a quantity goes from P over Q to R, with gravity's parts G and S
+-- ---- allowances: a quantity goes from P over Q to R, with the forcing's parts G and S
 
-added : (A K L P Q R G S : ℤ) → A ≡ K +ℤ L → Within K (pos 512 *ℤ (Q -ℤ P) -ℤ pos 2 *ℤ G) → Within L (pos 512 *ℤ (R -ℤ Q) -ℤ pos 2 *ℤ S) → Within A (pos 512 *ℤ (R -ℤ P) -ℤ pos 2 *ℤ (G +ℤ S))
+added : (A K L P Q R G S : ℤ) → A ≡ K +ℤ L → Within K (pos (2 ^ 35) *ℤ (Q -ℤ P) -ℤ pos 2 *ℤ G) → Within L (pos (2 ^ 35) *ℤ (R -ℤ Q) -ℤ pos 2 *ℤ S) → Within A (pos (2 ^ 35) *ℤ (R -ℤ P) -ℤ pos 2 *ℤ (G +ℤ S))
 added A K L P Q R G S e h k = linear (A ∷ K ∷ L ∷ P ∷ Q ∷ R ∷ G ∷ S ∷ []) (e & h & k) (search reading depth 30 fits 20000) (omega arith)
 
-none : (A P : ℤ) → A ≡ pos 0 → Within A (pos 512 *ℤ (P -ℤ P) -ℤ pos 2 *ℤ pos 0)
+none : (A P : ℤ) → A ≡ pos 0 → Within A (pos (2 ^ 35) *ℤ (P -ℤ P) -ℤ pos 2 *ℤ pos 0)
 none A P e = linear (A ∷ P ∷ []) e (search reading depth 30) (omega arith)
 
-linear-more : (n : ℕ) (m : ℤ) → pos (suc n) *ℤ (pos 257 *ℤ m) ≡ pos 257 *ℤ m +ℤ pos n *ℤ (pos 257 *ℤ m)
+linear-more : (n : ℕ) (m : ℤ) → pos (suc n) *ℤ (pos (257 * 2 ^ 26) *ℤ m) ≡ pos (257 * 2 ^ 26) *ℤ m +ℤ pos n *ℤ (pos (257 * 2 ^ 26) *ℤ m)
 linear-more n m = linear (m ∷ []) nothing (search reading depth 30) (omega arith)
 
-angular-more : (n : ℕ) (m f g : ℤ) → pos (suc n) *ℤ (pos 512 *ℤ m) +ℤ pos 257 *ℤ (f +ℤ g) ≡ pos 512 *ℤ m +ℤ pos 257 *ℤ f +ℤ (pos n *ℤ (pos 512 *ℤ m) +ℤ pos 257 *ℤ g)
+angular-more : (n : ℕ) (m f g : ℤ) → pos (suc n) *ℤ (pos (2 ^ 35) *ℤ m) +ℤ pos (257 * 2 ^ 26) *ℤ (f +ℤ g) ≡ pos (2 ^ 35) *ℤ m +ℤ pos (257 * 2 ^ 26) *ℤ f +ℤ (pos n *ℤ (pos (2 ^ 35) *ℤ m) +ℤ pos (257 * 2 ^ 26) *ℤ g)
 angular-more n m f g = linear (m ∷ f ∷ g ∷ []) nothing (search reading depth 30) (omega arith)
 
-nothing-yet : (m : ℤ) → pos 0 *ℤ (pos 257 *ℤ m) ≡ pos 0
+nothing-yet : (m : ℤ) → pos 0 *ℤ (pos (257 * 2 ^ 26) *ℤ m) ≡ pos 0
 nothing-yet m = linear (m ∷ []) nothing (search reading depth 30) (omega arith)
 
-nothing-turned : (m : ℤ) → pos 0 *ℤ (pos 512 *ℤ m) +ℤ pos 257 *ℤ pos 0 ≡ pos 0
+nothing-turned : (m : ℤ) → pos 0 *ℤ (pos (2 ^ 35) *ℤ m) +ℤ pos (257 * 2 ^ 26) *ℤ pos 0 ≡ pos 0
 nothing-turned m = linear (m ∷ []) nothing (search reading depth 30) (omega arith)
 
 pub chain-keeps : (ss : List Settings) (ps : List Particle) → Chain ss ps → Keeps (length ss) (worked ss ps) ps (arrives ss ps)
@@ -64,8 +66,8 @@ chain-keeps [] ps h =
     record {
       identifiers = refl;
       masses = refl;
-      linear = λ a. none (pos 0 *ℤ (pos 257 *ℤ pos (totalMass ps))) (momentum a ps) (nothing-yet (pos (totalMass ps)));
-      angular = none (pos 0 *ℤ (pos 512 *ℤ pos (totalMass ps)) +ℤ pos 257 *ℤ pos 0) (angularMomentum ps) (nothing-turned (pos (totalMass ps)));
+      linear = λ a. none (pos 0 *ℤ (pos (257 * 2 ^ 26) *ℤ pos (totalMass ps))) (momentum a ps) (nothing-yet (pos (totalMass ps)));
+      angular = none (pos 0 *ℤ (pos (2 ^ 35) *ℤ pos (totalMass ps)) +ℤ pos (257 * 2 ^ 26) *ℤ pos 0) (angularMomentum ps) (nothing-turned (pos (totalMass ps)));
     }
 chain-keeps (s ∷ ss) ps h =
     let k = chain-keeps ss (stepped s ps) (h .1) in
@@ -76,17 +78,17 @@ chain-keeps (s ∷ ss) ps h =
       identifiers = k .identifiers ∙ kept-identifiers axisWeight D s ps;
       masses = k .masses ∙ kept-masses axisWeight D s ps;
       linear = λ a.
-          added (pos (suc n) *ℤ (pos 257 *ℤ m)) (pos 257 *ℤ m) (pos n *ℤ (pos 257 *ℤ m))
+          added (pos (suc n) *ℤ (pos (257 * 2 ^ 26) *ℤ m)) (pos (257 * 2 ^ 26) *ℤ m) (pos n *ℤ (pos (257 * 2 ^ 26) *ℤ m))
           (momentum a ps) (momentum a (stepped s ps)) (momentum a (arrives ss (stepped s ps)))
-          (m *ℤ gravity s a) (sumOver steps (shareOf a))
+          (pos (2 ^ 26) *ℤ (m *ℤ gravity s a) +ℤ impulse rounded axisWeight D s a ps) (sumOver steps (forcingOf a))
           (linear-more n m) (step-linear axisWeight D s ps (h .0) spline-lawful a)
-          (subst (λ t. Within (pos n *ℤ (pos 257 *ℤ pos t)) (pos 512 *ℤ (momentum a (arrives ss (stepped s ps)) -ℤ momentum a (stepped s ps)) -ℤ pos 2 *ℤ sumOver steps (shareOf a))) (kept-mass axisWeight D s ps) (k .linear a));
+          (subst (λ t. Within (pos n *ℤ (pos (257 * 2 ^ 26) *ℤ pos t)) (pos (2 ^ 35) *ℤ (momentum a (arrives ss (stepped s ps)) -ℤ momentum a (stepped s ps)) -ℤ pos 2 *ℤ sumOver steps (forcingOf a))) (kept-mass axisWeight D s ps) (k .linear a));
       angular =
-          added (pos (suc n) *ℤ (pos 512 *ℤ m) +ℤ pos 257 *ℤ (firstMoment ps +ℤ sumOver steps momentOf)) (pos 512 *ℤ m +ℤ pos 257 *ℤ firstMoment ps) (pos n *ℤ (pos 512 *ℤ m) +ℤ pos 257 *ℤ sumOver steps momentOf)
+          added (pos (suc n) *ℤ (pos (2 ^ 35) *ℤ m) +ℤ pos (257 * 2 ^ 26) *ℤ (firstMoment ps +ℤ sumOver steps momentOf)) (pos (2 ^ 35) *ℤ m +ℤ pos (257 * 2 ^ 26) *ℤ firstMoment ps) (pos n *ℤ (pos (2 ^ 35) *ℤ m) +ℤ pos (257 * 2 ^ 26) *ℤ sumOver steps momentOf)
           (angularMomentum ps) (angularMomentum (stepped s ps)) (angularMomentum (arrives ss (stepped s ps)))
-          (torque (s .gx) (s .gy) ps) (sumOver steps torqueOf)
+          (pos (2 ^ 26) *ℤ torque (s .gx) (s .gy) ps +ℤ angularImpulse rounded axisWeight D s ps) (sumOver steps turningOf)
           (angular-more n m (firstMoment ps) (sumOver steps momentOf)) (step-angular axisWeight D s ps (h .0) spline-lawful)
-          (subst (λ t. Within (pos n *ℤ (pos 512 *ℤ pos t) +ℤ pos 257 *ℤ sumOver steps momentOf) (pos 512 *ℤ (angularMomentum (arrives ss (stepped s ps)) -ℤ angularMomentum (stepped s ps)) -ℤ pos 2 *ℤ sumOver steps torqueOf)) (kept-mass axisWeight D s ps) (k .angular));
+          (subst (λ t. Within (pos n *ℤ (pos (2 ^ 35) *ℤ pos t) +ℤ pos (257 * 2 ^ 26) *ℤ sumOver steps momentOf) (pos (2 ^ 35) *ℤ (angularMomentum (arrives ss (stepped s ps)) -ℤ angularMomentum (stepped s ps)) -ℤ pos 2 *ℤ sumOver steps turningOf)) (kept-mass axisWeight D s ps) (k .angular));
     }
 
 -- ---- each step

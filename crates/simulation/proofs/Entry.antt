@@ -39,8 +39,7 @@ module _ (s : Settings) (steps : ℕ) (records mass : List ℕ) (px py : List �
         particles = ps;
         set = a .set;
         most = set-length (s .nx) (s .ny) records (a .set);
-        gravity-x = a .gravity-x;
-        gravity-y = a .gravity-y;
+        forces = a .forces;
         mass-long = l .mass-is;
         px-long = l .x-is;
         py-long = l .y-is;

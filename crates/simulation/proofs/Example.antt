@@ -9,17 +9,18 @@ use Rattle.spline.specs.Spline.{nearestNode, offset, onAxis, axisWeight}
 use Rattle.particle.specs.declared.Particle.{Particle}
 use Rattle.particle.specs.Record.{particleOf, recordOf, readParticle, readAnswer}
 use Rattle.particles.specs.Set.{checkedParticle, setFrom, recordsOf, particlesIn}
-use Rattle.apic.specs.Step.{nodeMass, nodeMomentum, nodeVelocity, gatheredVelocity, gatheredAffine, moved, Grids}
+use Rattle.apic.specs.Step.{nodeMass, nodeMomentum, nodeVelocity, afterDrag, updatedVelocity, gatheredVelocity, gatheredAffine, moved, Grids}
 use Rattle.gathering.specs.Gather.{moveCheck, moveChecks}
 use Rattle.update.specs.Update.{velocities}
+use Rattle.settings.specs.declared.Edge.the-variants.{Open}
 use Rattle.settings.specs.declared.Settings.{Settings}
-use Rattle.entry.specs.Entry.{beginAnswer, entryAnswer}
+use Rattle.entry.specs.Entry.{checkedForces, beginAnswer, entryAnswer}
 use Rattle.simulation.specs.Step.{massesBy, momentaBy, velocitiesBy, steppedBy, stepBy, stepEntry, stepFrom, stepAfter}
 use Rattle.simulation.specs.Run.{runBy, runEntry, runAfter}
 use Rattle.simulation.specs.Demand3.{Call, step, run, leaves, leavesAll, completesAll}
 
 still : Settings
-still = record { nx = 4; ny = 4; gx = pos 0; gy = pos 0 }
+still = record { nx = 4; ny = 4; gx = pos 0; gy = pos 0; edge = Open; drag = 0 }
 
 abbrev given : Grids
 given = record { mass = replicate 16 5; x = replicate 16 (pos 5); y = replicate 16 (pos 5) }
@@ -45,5 +46,5 @@ record Worked : Type 0 where
   last : map line (particlesIn (leavesAll calls start)) ≡ (pos 7 ∷ pos 2 ∷ pos 112 ∷ pos 32 ∷ pos 3 ∷ negsuc 1 ∷ pos 0 ∷ pos 0 ∷ pos 0 ∷ pos 0 ∷ []) ∷ []
 
 worked : Worked
-unfolding nearest nearestNode offset onAxis axisWeight particleOf recordOf readParticle readAnswer checkedParticle setFrom recordsOf nodeMass nodeMomentum nodeVelocity gatheredVelocity gatheredAffine moved moveCheck moveChecks velocities massesBy momentaBy velocitiesBy steppedBy stepBy entryAnswer beginAnswer stepEntry stepFrom stepAfter runBy runEntry runAfter still particlesIn leavesAll completesAll
+unfolding nearest nearestNode offset onAxis axisWeight particleOf recordOf readParticle readAnswer checkedParticle setFrom recordsOf nodeMass nodeMomentum nodeVelocity afterDrag updatedVelocity gatheredVelocity gatheredAffine moved moveCheck moveChecks velocities massesBy momentaBy velocitiesBy steppedBy stepBy checkedForces entryAnswer beginAnswer stepEntry stepFrom stepAfter runBy runEntry runAfter still particlesIn leavesAll completesAll
 worked = record { first = refl; number = refl; last = refl }

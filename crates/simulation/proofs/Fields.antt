@@ -14,17 +14,16 @@ use Rattle.arith.specs.Lists.{getD-tabulated, map-each}
 use Rattle.arith.specs.Rounding.{rounded}
 use Rattle.arith.specs.Sums.{upTo, each-upTo}
 use Rattle.particle.specs.declared.Particle.{Particle}
-use Rattle.apic.specs.Step.{Axis, alongX, alongY, grid, node, nodeMass, nodeMomentum}
-use Rattle.apic.proofs.Update.{updated}
+use Rattle.apic.specs.Step.{Axis, alongX, alongY, grid, node, nodeMass, nodeMomentum, updatedVelocity, afterUpdate}
 use Rattle.apic.proofs.Fields.{Agree, node-grid, moved-fields}
 use Rattle.apic.proofs.Conservation as apic
-use Rattle.update.specs.Update.{velocityOf, velocities}
+use Rattle.update.specs.Update.{velocities}
 use Rattle.settings.specs.declared.Settings.{Settings}
-use Rattle.simulation.specs.Step.{gravity, massesBy, momentaBy, velocitiesBy, steppedBy}
+use Rattle.simulation.specs.Step.{massesBy, momentaBy, velocitiesBy, steppedBy}
 
 -- the field of the update, with the engine's rounding
 abbrev pub updatedField : (ℕ → ℕ → ℤ) → ℕ → Settings → Axis → List Particle → ℕ → ℕ → ℤ
-updatedField w D s a ps = updated rounded w D (gravity s a) a ps
+updatedField w D s a ps = afterUpdate rounded w D s a ps
 
 module _ (w : ℕ → ℕ → ℤ) (D : ℕ) (s : Settings) (ps : List Particle) where
   pub mass-at : (k : ℕ) → k < s .nx * s .ny → getD (massesBy w s ps) k 0 ≡ natAbs (nodeMass w ps (k % s .nx) (k / s .nx))
@@ -39,13 +38,13 @@ module _ (w : ℕ → ℕ → ℤ) (D : ℕ) (s : Settings) (ps : List Particle)
   unfolding velocitiesBy velocities
   velocity-grid a =
       map-each _ _ (upTo (s .nx * s .ny))
-      (each-upTo _ (s .nx * s .ny) (λ k h. ap₂ (velocityOf D (gravity s a)) (mass-at k h) (momentum-at a k h)))
+      (each-upTo _ (s .nx * s .ny) (λ k h. ap₂ (updatedVelocity rounded D s a (k % s .nx) (k / s .nx)) (mass-at k h) (momentum-at a k h)))
 
   pub field : (a : Axis) → Agree (s .nx) (s .ny) (node (s .nx) (velocitiesBy w D s a ps)) (updatedField w D s a ps)
   field a i j in-x in-y =
       ap (λ u. node (s .nx) u i j) (velocity-grid a) ∙ node-grid (s .nx) (s .ny) (updatedField w D s a ps) i j in-x in-y
 
-  pub stepped-is : steppedBy w D s ps ≡ apic.stepped rounded w D (s .nx) (s .ny) (s .gx) (s .gy) ps
+  pub stepped-is : steppedBy w D s ps ≡ apic.stepped rounded w D s ps
   unfolding steppedBy
   stepped-is =
       moved-fields rounded w (s .nx) (s .ny) _ _ _ _ (field alongX) (field alongY) ps

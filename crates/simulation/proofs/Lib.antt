@@ -5,6 +5,7 @@ pub mod Refusals
 pub mod Chains
 pub mod Calls
 pub mod Conserved
+pub mod Plain
 mod Example
 pub mod Particles
 pub mod Turns

@@ -4,43 +4,30 @@
 --     gather-ready     after the update the gather's
 --     step-leaves      and the gather leaves the step
 -- Assumes nothing.
-use mathlib.Core.Path.{_≡_, refl, sym, ap, subst, subst₂, _∙_}
+use mathlib.Core.Path.{_≡_, refl, sym, ap, ap₂, subst, subst₂, _∙_}
 use mathlib.Core.List.{List}
-use Prim.Native.Nat.{ℕ, _*_, _≤_}
-use lib.IntN.{ℤ, natAbs}
-use mir.Syntax.{w64}
-use mir.Val.{toZ, ofZ}
-use Rattle.arith.specs.Machine.{read-size}
+use Prim.Native.Nat.{ℕ}
+use lib.IntN.{ℤ}
 use Rattle.refusal.specs.Refused.{result}
-use Rattle.limits.specs.Limits.{mostGravity}
 use Rattle.spline.specs.Kernel.{weightIn}
 use Rattle.particle.specs.declared.Particle.{Particle}
-use Rattle.apic.specs.Step.{Axis, alongX, alongY}
+use Rattle.apic.specs.Step.{alongX, alongY}
 use Rattle.apic.proofs.Kernel.{kernel-lawful}
 use Rattle.unpacked.specs.Unpacked.{Holds}
 use Rattle.scatter_core.specs.Scatter.{ScatteredGrids, ScatterReady, Scatters}
-use Rattle.update.specs.Update.{GridLimits, velocities}
+use Rattle.update.specs.Update.{velocities}
+use Rattle.update.specs.Internal.{GridLimits}
 use Rattle.gathering.specs.declared.Gathered.{Gathered}
 use Rattle.gathering.specs.declared.Gathered.the-variants.{Done, Refused}
 use Rattle.gathering.specs.Gather.{toldGathered, NodeVelocities, Gatherable, GathersFrom, Gathers}
 use Rattle.gathering.proofs.Checks.{follow, checks-follow}
 use Rattle.gathering.proofs.Kept.{all-moved}
 use Rattle.settings.specs.declared.Settings.{Settings}
-use Rattle.simulation.specs.Step.{gravity, massesBy, momentaBy, velocitiesBy, moveBy, steppedBy, stepBy}
+use Rattle.simulation.specs.Step.{massesBy, momentaBy, velocitiesBy, moveBy, steppedBy, stepBy}
 use Rattle.simulation.specs.Internal.{StepReady, Steps, toldGatheredTo}
 use Rattle.simulation.proofs.Refusals.{grid-limits, velocity-limits}
 
 module _ {s : Settings} {source : List ℤ} {weights : List (List ℕ)} {d : ℕ} {mass : List ℕ} {px py target : List ℤ} (ready : StepReady s source weights d mass px py target) where
-  pub light : (a : Axis) → natAbs (gravity s a) ≤ mostGravity
-  light alongX = ready .gravity-x
-  light alongY = ready .gravity-y
-
-  back-x : toZ w64 (ofZ w64 (s .gx)) ≡ s .gx
-  back-x = read-size w64 (s .gx) (ready .gravity-x) tt
-
-  back-y : toZ w64 (ofZ w64 (s .gy)) ≡ s .gy
-  back-y = read-size w64 (s .gy) (ready .gravity-y) tt
-
   pub scatter-ready : ScatterReady (s .nx) (s .ny) source weights d mass px py
   scatter-ready =
       record {
@@ -76,26 +63,26 @@ module _ {s : Settings} {source : List ℤ} {weights : List (List ℕ)} {d : ℕ
     abbrev held : Holds (s .nx) (s .ny) source some
     held = ready .set .holds
 
-    pub update-ready : GridLimits d (s .nx * s .ny) (toZ w64 (ofZ w64 (s .gx))) (toZ w64 (ofZ w64 (s .gy))) mass₁ px₁ py₁
+    pub update-ready : GridLimits d s mass₁ px₁ py₁
     update-ready =
-        rw (mass-is some held, px-is some held, py-is some held, back-x, back-y) (grid-limits (kernel-lawful (ready .kernel)) s some (held .limits) light)
+        rw (mass-is some held, px-is some held, py-is some held) (grid-limits (kernel-lawful (ready .kernel)) s some (held .limits) (ready .forces))
 
-    module _ {px₂ py₂ : List ℤ} (x : px₂ ≡ velocities d (s .nx * s .ny) (toZ w64 (ofZ w64 (s .gx))) mass₁ px₁) (y : py₂ ≡ velocities d (s .nx * s .ny) (toZ w64 (ofZ w64 (s .gy))) mass₁ py₁) where
+    module _ {px₂ py₂ : List ℤ} (x : px₂ ≡ velocities d s alongX mass₁ px₁) (y : py₂ ≡ velocities d s alongY mass₁ py₁) where
       module _ (ps : List Particle) (holds : Holds (s .nx) (s .ny) source ps) where
         ux-is : px₂ ≡ velocitiesBy (weightIn weights) d s alongX ps
         unfolding velocitiesBy
-        ux-is = x ∙ (λ i. velocities d (s .nx * s .ny) (back-x i) (mass-is ps holds i) (px-is ps holds i))
+        ux-is = x ∙ ap₂ (velocities d s alongX) (mass-is ps holds) (px-is ps holds)
 
         uy-is : py₂ ≡ velocitiesBy (weightIn weights) d s alongY ps
         unfolding velocitiesBy
-        uy-is = y ∙ (λ i. velocities d (s .nx * s .ny) (back-y i) (mass-is ps holds i) (py-is ps holds i))
+        uy-is = y ∙ ap₂ (velocities d s alongY) (mass-is ps holds) (py-is ps holds)
 
       pub gather-ready : Gatherable (s .nx) (s .ny) source px₂ py₂ target
       gather-ready =
           record {
             particles = ready .set;
-            x-velocities = subst (NodeVelocities (s .nx) (s .ny)) (sym (ux-is some held)) (velocity-limits (kernel-lawful (ready .kernel)) s some (held .limits) light alongX);
-            y-velocities = subst (NodeVelocities (s .nx) (s .ny)) (sym (uy-is some held)) (velocity-limits (kernel-lawful (ready .kernel)) s some (held .limits) light alongY);
+            x-velocities = subst (NodeVelocities (s .nx) (s .ny)) (sym (ux-is some held)) (velocity-limits (kernel-lawful (ready .kernel)) s some (held .limits) (ready .forces) alongX);
+            y-velocities = subst (NodeVelocities (s .nx) (s .ny)) (sym (uy-is some held)) (velocity-limits (kernel-lawful (ready .kernel)) s some (held .limits) (ready .forces) alongY);
             room = ready .room;
           }
 

@@ -16,27 +16,28 @@ use lib.ListN.{length, getD, replicate}
 use lib.IntN.{ℤ, pos, natAbs}
 use lib.Signed.{_≤ℤ_}
 use Rattle.arith.specs.Order.{nonneg-pos, pos-cancel}
-use Rattle.arith.specs.Size.{bound-within, within-bound}
 use Rattle.arith.specs.Rounding.{rounded, rounded-error}
 use Rattle.arith.specs.Sums.{Each, upTo, each-upTo}
 use Rattle.refusal.specs.Refused.{Answer, result, refused, refuseIf, done}
 use Rattle.refusal.proofs.Answers.{not-refused}
-use Rattle.limits.specs.Limits.{mostVelocity, mostAffine, mostNodeMass, mostNodeVelocity, mostGravity}
+use Rattle.limits.specs.Limits.{mostVelocity, mostAffine, mostNodeMass, mostNodeVelocity}
 use Rattle.spline.specs.Spline.{axisWeight, D}
 use Rattle.particle.specs.declared.Particle.{Particle}
 use Rattle.particles.specs.Set.{recordsOf}
-use Rattle.apic.specs.Step.{Axis, alongX, alongY, newCoordinate, nodeMass, Grids}
+use Rattle.apic.specs.Step.{Axis, alongX, alongY, gravity, newCoordinate, nodeMass, Grids}
 use Rattle.apic.specs.Limits.{SetLimits}
 use Rattle.apic.proofs.Bounds as bounds
 use Rattle.apic.proofs.Bounds.{limited-set, node-limits}
-use Rattle.apic.proofs.Kernel.{Lawful, lawful-updated}
+use Rattle.apic.proofs.Kernel.{Lawful, lawful-gravity, lawful-updated}
 use Rattle.apic.proofs.Spline.{spline-lawful}
 use Rattle.arith.specs.Lists.{length-tabulated}
 use Rattle.gathering.specs.Gather.{beyond, offAxis, moveCheck, moveChecks, NodeVelocities}
-use Rattle.update.specs.Update.{velocityOf, NodeLimits, GridLimits, updateAnswer}
+use Rattle.update.specs.Update.{velocityOf, updateAnswer}
+use Rattle.update.specs.Internal.{GridLimits}
 use Rattle.update.proofs.Answers.{update-accepts}
 use Rattle.settings.specs.declared.Settings.{Settings}
-use Rattle.simulation.specs.Step.{gravity, massesBy, momentaBy, velocitiesBy, moveBy, steppedBy, stepBy, masses, momenta, stepped, stepOf, nodesOf}
+use Rattle.settings.specs.Settings.{ForceLimits}
+use Rattle.simulation.specs.Step.{massesBy, momentaBy, velocitiesBy, moveBy, steppedBy, stepBy, masses, momenta, stepped, stepOf, nodesOf}
 use Rattle.simulation.specs.Run.{Completion, runBy, runFrom}
 use Rattle.simulation.specs.Demand3.{arrives}
 use Rattle.simulation.proofs.Fields.{updatedField, mass-at, momentum-at, velocity-grid}
@@ -53,10 +54,10 @@ inside k (suc n) ny h =
     let some : 0 < suc n = omega arith in
     (mod-lt k some, div-lt-iff-lt-mul some .1 (subst (λ m. k < m) (mul-comm (suc n) ny) h))
 
-module _ {w : ℕ → ℕ → ℤ} {D : ℕ} (law : Lawful w D) (s : Settings) (ps : List Particle) (limits : SetLimits (s .nx) (s .ny) ps) (light : (a : Axis) → natAbs (gravity s a) ≤ mostGravity) where
+module _ {w : ℕ → ℕ → ℤ} {D : ℕ} (law : Lawful w D) (s : Settings) (ps : List Particle) (limits : SetLimits (s .nx) (s .ny) ps) (forces : ForceLimits s) where
   updated-most : (a : Axis) (i j : ℕ) → natAbs (updatedField w D s a ps i j) ≤ mostNodeVelocity
   updated-most a i j =
-      within-bound (lawful-updated law (s .nx) (s .ny) ps (limited-set limits) rounded rounded-error (gravity s a) (bound-within (record { size = light a })) a i j) .size
+      lawful-updated law rounded rounded-error s ps (limited-set limits) forces a i j
 
   node-at : (k : ℕ) → k < s .nx * s .ny → bounds.NodeLimits w D ps (k % s .nx) (k / s .nx)
   node-at k h =
@@ -75,25 +76,30 @@ module _ {w : ℕ → ℕ → ℤ} {D : ℕ} (law : Lawful w D) (s : Settings) (
 
     velocity-most : (a : Axis) → natAbs (velocityOf D (gravity s a) (getD (massesBy w s ps) k 0) (getD (momentaBy w D s a ps) k (pos 0))) ≤ mostNodeVelocity
     velocity-most a =
-        rw (mass-at w D s ps k h, momentum-at w D s ps a k h) (updated-most a (k % s .nx) (k / s .nx))
+        rw (mass-at w D s ps k h, momentum-at w D s ps a k h) (lawful-gravity law rounded rounded-error s ps (limited-set limits) forces a (k % s .nx) (k / s .nx))
 
-  pub grid-limits : GridLimits D (s .nx * s .ny) (s .gx) (s .gy) (massesBy w s ps) (momentaBy w D s alongX ps) (momentaBy w D s alongY ps)
+  pub grid-limits : GridLimits D s (massesBy w s ps) (momentaBy w D s alongX ps) (momentaBy w D s alongY ps)
   unfolding massesBy momentaBy
   grid-limits =
       record {
-        spread = law .spread;
-        mass-length = length-tabulated _ (s .nx * s .ny);
-        px-length = length-tabulated _ (s .nx * s .ny);
-        py-length = length-tabulated _ (s .nx * s .ny);
-        gravity-x = light alongX;
-        gravity-y = light alongY;
-        nodes = λ k h.
+        sizes = limits .sizes;
+        forces = forces;
+        within =
             record {
-              mass = mass-most k h;
-              massless-x = no-momentum k h alongX;
-              massless-y = no-momentum k h alongY;
-              vx = velocity-most k h alongX;
-              vy = velocity-most k h alongY;
+              spread = law .spread;
+              mass-length = length-tabulated _ (s .nx * s .ny);
+              px-length = length-tabulated _ (s .nx * s .ny);
+              py-length = length-tabulated _ (s .nx * s .ny);
+              gravity-x = forces .gravity-x;
+              gravity-y = forces .gravity-y;
+              nodes = λ k h.
+                  record {
+                    mass = mass-most k h;
+                    massless-x = no-momentum k h alongX;
+                    massless-y = no-momentum k h alongY;
+                    vx = velocity-most k h alongX;
+                    vy = velocity-most k h alongY;
+                  };
             };
       }
 
@@ -110,9 +116,9 @@ module _ {w : ℕ → ℕ → ℤ} {D : ℕ} (law : Lawful w D) (s : Settings) (
       each-image P f (x ∷ xs) e = (e .0, each-image P f xs (e .1))
 
 -- with the spline's weights
-pub update-done : (s : Settings) (ps : List Particle) → SetLimits (s .nx) (s .ny) ps → ((a : Axis) → natAbs (gravity s a) ≤ mostGravity) → updateAnswer (s .nx) (s .ny) (s .gx) (s .gy) (masses s ps) (momenta s alongX ps) (momenta s alongY ps) ≡ done
-update-done s ps limits light =
-    update-accepts (s .nx) (s .ny) (s .gx) (s .gy) (masses s ps) (momenta s alongX ps) (momenta s alongY ps) (limits .sizes) (grid-limits spline-lawful s ps limits light)
+pub update-done : (s : Settings) (ps : List Particle) → SetLimits (s .nx) (s .ny) ps → ForceLimits s → updateAnswer s (masses s ps) (momenta s alongX ps) (momenta s alongY ps) ≡ done
+update-done s ps limits forces =
+    update-accepts s (masses s ps) (momenta s alongX ps) (momenta s alongY ps) (grid-limits spline-lawful s ps limits forces)
 
 -- ---- the step
 

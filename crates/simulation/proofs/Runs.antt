@@ -37,7 +37,6 @@ use Rattle.simulation.specs.Run.{Completion, afterOne, runBy, runFrom, t
 use Rattle.simulation.specs.Internal.{StepReady, StepLeaves, Turns, RepeatsFrom, Repeats, Settles, RunReady, toldGatheredTo, current, other, recordsAfter, completedBy}
 use Rattle.simulation.proofs.Steps.{completed, limits-after, kept-identifiers}
 use Rattle.simulation.proofs.Refusals.{grid-limits, velocity-limits}
-use Rattle.simulation.proofs.Particles.{light}
 use Rattle.simulation.proofs.Turns.{swap, current-length, Home}
 
 -- ---- one step of the definition
@@ -212,12 +211,11 @@ module _ {s : Settings} {steps : ℕ} {weights : List (List ℕ)} {d : ℕ} {sou
       next-ready =
           record {
             set = record { particles = steppedBy (weightIn weights) d s some; holds = next-holds t c held };
-            gravity-x = h .ready .gravity-x;
-            gravity-y = h .ready .gravity-y;
+            forces = h .ready .forces;
             kernel = h .ready .kernel;
-            mass-long = ap (λ g. length (g .mass)) grids-are ∙ grid-limits (kernel-lawful (h .ready .kernel)) s some (held .limits) (light (h .ready)) .mass-length;
-            px-long = ap (λ g. length (g .x)) grids-are ∙ velocity-limits (kernel-lawful (h .ready .kernel)) s some (held .limits) (light (h .ready)) alongX .count;
-            py-long = ap (λ g. length (g .y)) grids-are ∙ velocity-limits (kernel-lawful (h .ready .kernel)) s some (held .limits) (light (h .ready)) alongY .count;
+            mass-long = ap (λ g. length (g .mass)) grids-are ∙ grid-limits (kernel-lawful (h .ready .kernel)) s some (held .limits) (h .ready .forces) .within .mass-length;
+            px-long = ap (λ g. length (g .x)) grids-are ∙ velocity-limits (kernel-lawful (h .ready .kernel)) s some (held .limits) (h .ready .forces) alongX .count;
+            py-long = ap (λ g. length (g .y)) grids-are ∙ velocity-limits (kernel-lawful (h .ready .kernel)) s some (held .limits) (h .ready .forces) alongY .count;
             room = room;
           }
 
@@ -244,8 +242,7 @@ module _ {s : Settings} {records mass : List ℕ} {px py : List ℤ} (ready : Ru
     repeat-ready w r =
         record {
           set = record { particles = particlesIn records; holds = holds };
-          gravity-x = ready .gravity-x;
-          gravity-y = ready .gravity-y;
+          forces = ready .forces;
           kernel = w;
           mass-long = ready .mass-long;
           px-long = ready .px-long;

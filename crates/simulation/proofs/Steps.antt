@@ -10,7 +10,7 @@
 -- Assumes nothing.
 use mathlib.Core.Path.{_≡_, refl, sym, ap, _∙_, subst}
 use mathlib.Core.List.{List, [], _∷_, map}
-use Prim.Native.Nat.{ℕ, suc}
+use Prim.Native.Nat.{ℕ, suc, _*_, _^_}
 use lib.Dec.{T}
 use lib.IntN.{ℤ, pos, _+ℤ_, _-ℤ_, _*ℤ_}
 use lib.Signed.{_≤ℤ_, nonNeg, pos-natAbs}
@@ -20,10 +20,10 @@ use Rattle.arith.specs.Sums.{Each, each-map}
 use Rattle.refusal.specs.Refused.{Answer, result, refused}
 use Rattle.refusal.proofs.Answers.{same-result, not-result}
 use Rattle.particle.specs.declared.Particle.{Particle}
-use Rattle.apic.specs.Step.{Axis, alongX, alongY, newCoordinate, moved, node}
-use Rattle.apic.specs.Totals.{totalMass, momentum, angularMomentum, torque, firstMoment}
+use Rattle.apic.specs.Step.{Axis, alongX, alongY, gravity, newCoordinate, moved, node}
+use Rattle.apic.specs.Totals.{totalMass, momentum, angularMomentum, torque, impulse, angularImpulse, firstMoment}
 use Rattle.apic.specs.Limits.{SetLimits}
-use Rattle.apic.proofs.Gather.{along, NewPlace, gather-identifiers, gather-masses, gather-mass}
+use Rattle.apic.proofs.Gather.{NewPlace, gather-identifiers, gather-masses, gather-mass}
 use Rattle.apic.proofs.Fields.{velocity-fields}
 use Rattle.apic.proofs.Bounds.{spread-whole}
 use Rattle.apic.proofs.Kernel.{Lawful}
@@ -32,7 +32,7 @@ use Rattle.gathering.specs.Gather.{moveChecks}
 use Rattle.gathering.proofs.Checks.{follow, checks-follow, Passed, passed}
 use Rattle.gathering.proofs.Kept.{set-kept}
 use Rattle.settings.specs.declared.Settings.{Settings}
-use Rattle.simulation.specs.Step.{gravity, velocitiesBy, moveBy, steppedBy, stepBy}
+use Rattle.simulation.specs.Step.{velocitiesBy, moveBy, steppedBy, stepBy}
 use Rattle.simulation.proofs.Fields.{updatedField, field, stepped-is}
 
 -- the checks of a step, apart from what it leads to
@@ -102,18 +102,13 @@ module _ (w : ℕ → ℕ → ℤ) (D : ℕ) (s : Settings) (ps : List Particle)
         nonneg : {z : ℤ} → T (nonNeg z) → pos 0 ≤ℤ z
         nonneg {z} t = subst (λ y. pos 0 ≤ℤ y) (pos-natAbs z t) (pos-nonneg _)
 
-    pub step-linear : Lawful w D → (a : Axis) → Within (pos 257 *ℤ pos (totalMass ps)) (pos 512 *ℤ (momentum a (steppedBy w D s ps) -ℤ momentum a ps) -ℤ pos 2 *ℤ (pos (totalMass ps) *ℤ gravity s a))
+    pub step-linear : Lawful w D → (a : Axis) → Within (pos (257 * 2 ^ 26) *ℤ pos (totalMass ps)) (pos (2 ^ 35) *ℤ (momentum a (steppedBy w D s ps) -ℤ momentum a ps) -ℤ pos 2 *ℤ (pos (2 ^ 26) *ℤ (pos (totalMass ps) *ℤ gravity s a) +ℤ impulse rounded w D s a ps))
     step-linear law a =
-        subst (λ g. Within (pos 257 *ℤ pos (totalMass ps)) (pos 512 *ℤ (momentum a (steppedBy w D s ps) -ℤ momentum a ps) -ℤ pos 2 *ℤ (pos (totalMass ps) *ℤ g))) (same a)
-        (subst (λ qs. Within (pos 257 *ℤ pos (totalMass ps)) (pos 512 *ℤ (momentum a qs -ℤ momentum a ps) -ℤ pos 2 *ℤ (pos (totalMass ps) *ℤ along a (s .gx) (s .gy)))) (sym (stepped-is w D s ps))
-        (apic.step-linear rounded rounded-error w D (spread-whole (law .spread)) (s .nx) (s .ny) ps (law .placed (s .nx) (s .ny) ps (h .limits .each)) (s .gx) (s .gy) a))
-      where
-        same : (a : Axis) → along a (s .gx) (s .gy) ≡ gravity s a
-        same alongX = refl
-        same alongY = refl
+        subst (λ qs. Within (pos (257 * 2 ^ 26) *ℤ pos (totalMass ps)) (pos (2 ^ 35) *ℤ (momentum a qs -ℤ momentum a ps) -ℤ pos 2 *ℤ (pos (2 ^ 26) *ℤ (pos (totalMass ps) *ℤ gravity s a) +ℤ impulse rounded w D s a ps))) (sym (stepped-is w D s ps))
+        (apic.step-linear rounded rounded-error w D (spread-whole (law .spread)) s ps (law .placed (s .nx) (s .ny) ps (h .limits .each)) a)
 
-    pub step-angular : Lawful w D → Within (pos 512 *ℤ pos (totalMass ps) +ℤ pos 257 *ℤ firstMoment ps) (pos 512 *ℤ (angularMomentum (steppedBy w D s ps) -ℤ angularMomentum ps) -ℤ pos 2 *ℤ torque (s .gx) (s .gy) ps)
+    pub step-angular : Lawful w D → Within (pos (2 ^ 35) *ℤ pos (totalMass ps) +ℤ pos (257 * 2 ^ 26) *ℤ firstMoment ps) (pos (2 ^ 35) *ℤ (angularMomentum (steppedBy w D s ps) -ℤ angularMomentum ps) -ℤ pos 2 *ℤ (pos (2 ^ 26) *ℤ torque (s .gx) (s .gy) ps +ℤ angularImpulse rounded w D s ps))
     step-angular law =
-        subst (λ qs. Within (pos 512 *ℤ pos (totalMass ps) +ℤ pos 257 *ℤ firstMoment ps) (pos 512 *ℤ (angularMomentum qs -ℤ angularMomentum ps) -ℤ pos 2 *ℤ torque (s .gx) (s .gy) ps)) (sym (stepped-is w D s ps))
-        (apic.step-angular rounded rounded-error w D (spread-whole (law .spread)) (s .nx) (s .ny) ps (law .placed (s .nx) (s .ny) ps (h .limits .each)) (s .gx) (s .gy)
+        subst (λ qs. Within (pos (2 ^ 35) *ℤ pos (totalMass ps) +ℤ pos (257 * 2 ^ 26) *ℤ firstMoment ps) (pos (2 ^ 35) *ℤ (angularMomentum qs -ℤ angularMomentum ps) -ℤ pos 2 *ℤ (pos (2 ^ 26) *ℤ torque (s .gx) (s .gy) ps +ℤ angularImpulse rounded w D s ps))) (sym (stepped-is w D s ps))
+        (apic.step-angular rounded rounded-error w D (spread-whole (law .spread)) s ps (law .placed (s .nx) (s .ny) ps (h .limits .each))
         (each-map _ _ new-place ps (all-passed (s .nx) (s .ny) (moveBy w D s ps) 0 ps (h .checked))))

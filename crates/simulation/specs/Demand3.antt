@@ -1,20 +1,23 @@
--- Demand 3, and document 01's "The lists of demand 3": what every list of step and run calls keeps, as one claim.
--- This file says, in this order, what a call is and what it leaves of the records, which steps a list of calls completed,
--- and the claim. Totals are those of apic's specs/Totals.antt. `Within k z` says that −k ≤ z ≤ k. Assumes nothing.
+-- Demand 3, document 01's "The lists of demand 3" and document 02's paper 1: what every list of step and run calls keeps, as one
+-- claim. This file says, in this order, what a call is and what it leaves of the records, which steps a list of calls completed,
+-- and the claim. Totals, and what drag and rim change, are those of apic's specs/Totals.antt. `Within k z` says that −k ≤ z ≤ k.
+-- Assumes nothing.
 use mathlib.Core.Path.{_≡_}
 use mathlib.Core.List.{List, [], _∷_, _++_, map}
-use Prim.Native.Nat.{ℕ, _+_}
+use Prim.Native.Nat.{ℕ, _+_, _*_, _^_}
 use lib.ListN.{length, replicate}
 use lib.IntN.{ℤ, pos, _+ℤ_, _-ℤ_, _*ℤ_}
 use Rattle.arith.specs.Order.{Within}
+use Rattle.arith.specs.Rounding.{rounded}
 use Rattle.arith.specs.Sums.{Each, sumOver}
 use Rattle.refusal.specs.Refused.{result, either}
+use Rattle.spline.specs.Spline.{axisWeight, D}
 use Rattle.particle.specs.declared.Particle.{Particle}
-use Rattle.apic.specs.Step.{Axis, Grids}
-use Rattle.apic.specs.Totals.{totalMass, momentum, angularMomentum, torque, firstMoment}
+use Rattle.apic.specs.Step.{Axis, gravity, Grids}
+use Rattle.apic.specs.Totals.{totalMass, momentum, angularMomentum, torque, impulse, angularImpulse, firstMoment}
 use Rattle.particles.specs.Set.{particlesIn, checkAnswer}
 use Rattle.settings.specs.declared.Settings.{Settings}
-use Rattle.simulation.specs.Step.{gravity, stepped, stepOf, stepAfter}
+use Rattle.simulation.specs.Step.{stepped, stepOf, stepAfter}
 use Rattle.simulation.specs.Run.{runAfter}
 
 -- ---- records
@@ -91,29 +94,38 @@ shareOf a c = pos (totalMass (c .before)) *ℤ gravity (c .settings) a
 abbrev pub torqueOf : CompletedStep → ℤ
 torqueOf c = torque (c .settings .gx) (c .settings .gy) (c .before)
 
+-- gravity's share and the impulse of drag and rim, which is the sum of node mass times node change over 2^34; and the same of
+-- angular momentum, each node change at its node's place; both times 2^34
+abbrev pub forcingOf : Axis → CompletedStep → ℤ
+forcingOf a c = pos (2 ^ 26) *ℤ shareOf a c +ℤ impulse rounded axisWeight D (c .settings) a (c .before)
+
+abbrev pub turningOf : CompletedStep → ℤ
+turningOf c = pos (2 ^ 26) *ℤ torqueOf c +ℤ angularImpulse rounded axisWeight D (c .settings) (c .before)
+
 -- the sum of mass times (x + y), taken before it
 abbrev pub momentOf : CompletedStep → ℤ
 momentOf c = firstMoment (c .before)
 
 -- ---- the claim
 
--- what n completed steps from ps to qs keep; all of it times 512
+-- what n completed steps from ps to qs keep; all of it times 2^35
 pub record Keeps (n : ℕ) (steps : List CompletedStep) (ps qs : List Particle) : Type 0 where
   -- the same identifiers and masses in the same order
   pub identifiers : map (λ p. p .identifier) qs ≡ map (λ p. p .identifier) ps
   pub masses : map (λ p. p .mass) qs ≡ map (λ p. p .mass) ps
-  -- momentum is the start's plus gravity's shares, within n times 257/512 of the total mass
-  pub linear : (a : Axis) → Within (pos n *ℤ (pos 257 *ℤ pos (totalMass ps))) (pos 512 *ℤ (momentum a qs -ℤ momentum a ps) -ℤ pos 2 *ℤ sumOver steps (shareOf a))
-  -- angular momentum is the start's plus gravity's torques, within n times the total mass plus 257/512 of the sums of mass
-  -- times (x + y)
-  pub angular : Within (pos n *ℤ (pos 512 *ℤ pos (totalMass ps)) +ℤ pos 257 *ℤ sumOver steps momentOf) (pos 512 *ℤ (angularMomentum qs -ℤ angularMomentum ps) -ℤ pos 2 *ℤ sumOver steps torqueOf)
+  -- momentum is the start's plus gravity's shares and the impulses of drag and rim, within n times 257/512 of the total mass
+  pub linear : (a : Axis) → Within (pos n *ℤ (pos (257 * 2 ^ 26) *ℤ pos (totalMass ps))) (pos (2 ^ 35) *ℤ (momentum a qs -ℤ momentum a ps) -ℤ pos 2 *ℤ sumOver steps (forcingOf a))
+  -- angular momentum is the start's plus gravity's torques and the angular impulses of drag and rim, within n times the total mass
+  -- plus 257/512 of the sums of mass times (x + y)
+  pub angular : Within (pos n *ℤ (pos (2 ^ 35) *ℤ pos (totalMass ps)) +ℤ pos (257 * 2 ^ 26) *ℤ sumOver steps momentOf) (pos (2 ^ 35) *ℤ (angularMomentum qs -ℤ angularMomentum ps) -ℤ pos 2 *ℤ sumOver steps turningOf)
 
-pub record Conserves (calls : List Call) (start : List ℕ) : Type 0 where
+-- the claim about a list of calls, where `Kept` says what completed steps keep
+pub record Conserves (Kept : ℕ → List CompletedStep → List Particle → List Particle → Type 0) (calls : List Call) (start : List ℕ) : Type 0 where
   -- as many records as at the start
   pub count : length (leavesAll calls start) ≡ length start
-  pub whole : Keeps (completesAll calls start) (completedSteps calls start) (particlesIn start) (particlesIn (leavesAll calls start))
+  pub whole : Kept (completesAll calls start) (completedSteps calls start) (particlesIn start) (particlesIn (leavesAll calls start))
   -- every completed step by itself, with n = 1
-  pub each : Each (λ c. Keeps 1 (c ∷ []) (c .before) (c .after)) (completedSteps calls start)
+  pub each : Each (λ c. Kept 1 (c ∷ []) (c .before) (c .after)) (completedSteps calls start)
   -- the completed steps are as many as the calls say; no limit refuses one of them; the records left hold the last one
   pub number : length (completedSteps calls start) ≡ completesAll calls start
   pub unrefused : Each (λ c. stepOf (c .settings) (c .before) ≡ result (c .after)) (completedSteps calls start)
@@ -122,4 +134,4 @@ pub record Conserves (calls : List Call) (start : List ℕ) : Type 0 where
   pub accepted : Accepted (leavesAll calls start)
 
 abbrev pub Demand3 : Type 0
-Demand3 = (start : List ℕ) → Accepted start → (calls : List Call) → Conserves calls start
+Demand3 = (start : List ℕ) → Accepted start → (calls : List Call) → Conserves Keeps calls start

@@ -6,9 +6,8 @@ use mathlib.Core.List.{List}
 use Prim.Native.Nat.{ℕ, zero, suc, _*_, _%_, _≤_}
 use lib.Dec.{eqb}
 use lib.ListN.{length}
-use lib.IntN.{ℤ, natAbs}
+use lib.IntN.{ℤ}
 use Rattle.refusal.specs.Refused.{Answer, result, refusedBy}
-use Rattle.limits.specs.Limits.{mostGravity}
 use Rattle.spline.specs.Kernel.{Kernel}
 use Rattle.particle.specs.declared.Particle.{Particle}
 use Rattle.particles.specs.Set.{setLength, recordsOf, particlesIn, setAnswer}
@@ -17,6 +16,7 @@ use Rattle.packing.specs.Packing.{identifiers}
 use Rattle.gathering.specs.declared.Gathered.{Gathered}
 use Rattle.gathering.specs.declared.Gathered.the-variants.{Done, Refused}
 use Rattle.settings.specs.declared.Settings.{Settings}
+use Rattle.settings.specs.Settings.{ForceLimits}
 use Rattle.simulation.specs.declared.Ran.{Ran}
 use Rattle.apic.specs.Step.{Grids, gridsOf}
 use Rattle.simulation.specs.Step.{seen, nodesBy, steppedBy, stepBy}
@@ -26,8 +26,7 @@ use Rattle.simulation.specs.Run.{toldRan, runBy, runFrom}
 
 pub record StepReady (s : Settings) (source : List ℤ) (weights : List (List ℕ)) (d : ℕ) (mass : List ℕ) (px py target : List ℤ) : Type 0 where
   pub set : UnpackedSet (s .nx) (s .ny) source
-  pub gravity-x : natAbs (s .gx) ≤ mostGravity
-  pub gravity-y : natAbs (s .gy) ≤ mostGravity
+  pub forces : ForceLimits s
   pub kernel : Kernel weights d
   pub mass-long : length mass ≡ s .nx * s .ny
   pub px-long : length px ≡ s .nx * s .ny
@@ -105,8 +104,7 @@ pub record RunReady (s : Settings) (records mass : List ℕ) (px py : List ℤ) 
   pub particles : List Particle
   pub set : setAnswer (s .nx) (s .ny) records ≡ result particles
   pub most : length records ≤ setLength
-  pub gravity-x : natAbs (s .gx) ≤ mostGravity
-  pub gravity-y : natAbs (s .gy) ≤ mostGravity
+  pub forces : ForceLimits s
   pub mass-long : length mass ≡ s .nx * s .ny
   pub px-long : length px ≡ s .nx * s .ny
   pub py-long : length py ≡ s .nx * s .ny

@@ -41,7 +41,7 @@ runBy w d s (suc n) records ps grids =
 abbrev pub runFrom : Settings → ℕ → List ℕ → List Particle → Grids → After Completion
 runFrom = runBy axisWeight D
 
--- 2; 1, also for the grid buffers; 10; 17 steps above 10,000; the set
+-- 2; 1, also for the grid buffers; 10; 18; 19; 17 steps above 10,000; the set
 unfoldable pub runEntry : Settings → ℕ → List ℕ → Grids → Answer (List Particle)
 runEntry s steps records grids = entryAnswer s (buffersOf grids) steps records
 

@@ -1,4 +1,4 @@
--- Document 01, "The step" and the operation step: scatter, update and gather on a particle set, and what a caller with any
+-- Documents 01 and 02, "The step" and the operation step: scatter, update and gather on a particle set, and what a caller with any
 -- numbers and any buffers sees after a call: the answer, the records and the three grids. Assumes nothing.
 use mathlib.Core.Path.{_≡_}
 use mathlib.Core.List.{List, map}
@@ -19,10 +19,6 @@ use Rattle.settings.specs.declared.Settings.{Settings}
 use Rattle.simulation.specs.declared.Stepped.{Stepped}
 use Rattle.simulation.specs.declared.Stepped.the-variants.{Done, Refused}
 
-abbrev pub gravity : Settings → Axis → ℤ
-gravity s alongX = s .gx
-gravity s alongY = s .gy
-
 -- ---- scatter, update, gather, with axis weights w and their second moment d
 
 -- the node masses, and the node momenta on an axis, after the scatter
@@ -34,7 +30,7 @@ momentaBy w d s a ps = grid (s .nx) (s .ny) (nodeMomentum w d a ps)
 
 -- the node velocities on an axis after the update
 unfoldable pub velocitiesBy : (ℕ → ℕ → ℤ) → ℕ → Settings → Axis → List Particle → List ℤ
-velocitiesBy w d s a ps = velocities d (s .nx * s .ny) (gravity s a) (massesBy w s ps) (momentaBy w d s a ps)
+velocitiesBy w d s a ps = velocities d s a (massesBy w s ps) (momentaBy w d s a ps)
 
 -- a particle after the gather
 abbrev pub moveBy : (ℕ → ℕ → ℤ) → ℕ → Settings → List Particle → Particle → Particle
@@ -96,7 +92,7 @@ pub record Sees {A : Type 0} (after : After A) (told : A) (bytes mass : List ℕ
 abbrev pub buffersOf : Grids → Buffers
 buffersOf grids = Three (length (grids .mass)) (length (grids .x)) (length (grids .y))
 
--- 2; 1, also for the grid buffers; 10; the set
+-- 2; 1, also for the grid buffers; 10; 18; 19; the set
 unfoldable pub stepEntry : Settings → List ℕ → Grids → Answer (List Particle)
 stepEntry s records grids = entryAnswer s (buffersOf grids) 0 records
 

@@ -14,6 +14,7 @@ use Rattle.particle.specs.Record.{recordOf}
 use Rattle.particles.specs.Set.{checkAnswer, recordsOf, particlesIn}
 use Rattle.unpacked.specs.Unpacked.{numbers}
 use Rattle.apic.specs.Step.{Grids}
+use Rattle.settings.specs.declared.Edge.the-variants.{Open}
 use Rattle.simulation.specs.Step.{After, stepAfter}
 
 -- without Bxy, Byx and Byy
@@ -45,7 +46,7 @@ abbrev lent : Grids
 lent = record { mass = replicate 20 3; x = replicate 20 (pos 5); y = replicate 20 (negℤ (pos 7)) }
 
 abbrev after : ℤ → ℤ → List Particle → After (Answer Unit)
-after gx gy ps = stepAfter (record { nx = 4; ny = 5; gx = gx; gy = gy }) (recordsOf ps) lent
+after gx gy ps = stepAfter (record { nx = 4; ny = 5; gx = gx; gy = gy; edge = Open; drag = 0 }) (recordsOf ps) lent
 
 abbrev listed : List Particle → List ℤ
 listed [] = []

@@ -21,6 +21,6 @@ pub fn step_particles(
     let nx = settings.nx;
     let ny = settings.ny;
     scatter_core::scatter_all(from, nx, ny, table, d, mass, px, py);
-    update_grid::update_all(nx * ny, d, settings.gx, settings.gy, mass, px, py);
+    update_grid::update_all(settings, d, mass, px, py);
     gather_core::gather_from(0, from, nx, ny, table, px, py, to)
 }

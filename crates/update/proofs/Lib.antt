@@ -1,3 +1,4 @@
+mod Example
 pub mod Walk
 pub mod Answers
-pub mod Example
+pub mod Rim

@@ -1,1 +1,3 @@
 pub mod Update
+pub mod Rim
+pub mod Internal

@@ -1,27 +1,27 @@
--- Document 01, operation "Update": what it answers for any numbers and any buffers, and what the grids hold afterwards. The
--- operation's D is the spline's; what stands before it is for any.
+-- Documents 01 and 02, operation "Update": what it answers for any numbers and any buffers, and what the grids hold afterwards.
+-- The operation's D is the spline's; what stands before it is for any.
 -- Assumes nothing.
 use mathlib.Core.Path.{_≡_}
 use mathlib.Core.Bool.{Bool, not, _&&_, _||_}
 use mathlib.Core.List.{List, map}
-use Prim.Native.Nat.{ℕ, _*_, _≤_, _<_}
+use Prim.Native.Nat.{ℕ, _*_, _/_, _%_, _≤_}
 use lib.Dec.{ltb, eqb}
 use lib.ListN.{length, getD}
 use lib.IntN.{ℤ, pos, natAbs}
 use Rattle.arith.specs.Sums.{upTo}
 use Rattle.arith.specs.Rounding.{rounded}
 use Rattle.refusal.specs.Refused.{Answer, refusedBy, refuseIf, andThen, done, forEach, Leaves}
-use Rattle.limits.specs.Limits.{mostNodeMass, mostNodeVelocity, mostGravity}
+use Rattle.limits.specs.Limits.{mostNodeMass, mostNodeVelocity}
 use Rattle.spline.specs.Spline.{D}
-use Rattle.spline.specs.Kernel.{Spread}
-use Rattle.apic.specs.Step.{nodeVelocity}
+use Rattle.apic.specs.Step.{Axis, alongX, alongY, nodeVelocity, updatedVelocity}
+use Rattle.settings.specs.declared.Settings.{Settings}
 use Rattle.update.specs.declared.Updated.{Updated}
 use Rattle.update.specs.declared.Updated.the-variants.{Done, Refused}
 use Rattle.entry.specs.declared.Buffers.the-variants.{Three}
 use Rattle.entry.specs.Checks.{bothWithin}
 use Rattle.entry.specs.Entry.{beginAnswer}
 
--- a node's velocity on one axis: momentum/(M·D/256), rounded, plus gravity; 0 where M is 0
+-- a node's velocity on one axis after gravity: momentum/(M·D/256), rounded, plus gravity; 0 where M is 0
 abbrev pub velocityOf : ℕ → ℤ → ℕ → ℤ → ℤ
 velocityOf d g M momentum = nodeVelocity rounded d g M momentum
 
@@ -31,7 +31,7 @@ velocityOf d g M momentum = nodeVelocity rounded d g M momentum
 abbrev pub breaksMass : ℕ → ℤ → ℤ → Bool
 breaksMass M px py = ltb mostNodeMass M || (eqb M 0 && (not (eqb (natAbs px) 0) || not (eqb (natAbs py) 0)))
 
--- 12: a resulting velocity beyond ±131,072
+-- 12: a velocity after gravity beyond ±131,072
 abbrev pub breaksVelocity : ℕ → ℤ → ℤ → ℕ → ℤ → ℤ → Bool
 breaksVelocity d gx gy M px py = not (bothWithin mostNodeVelocity (velocityOf d gx M px) (velocityOf d gy M py))
 
@@ -55,19 +55,10 @@ checkNodeAt d gx gy mass px py k = checkNode d gx gy k (getD mass k 0) (getD px 
 unfoldable pub checkNodes : ℕ → ℕ → ℤ → ℤ → List ℕ → List ℤ → List ℤ → Answer Unit
 checkNodes d n gx gy mass px py = forEach (checkNodeAt d gx gy mass px py) 0 n
 
--- the velocities on one axis, from the masses and the momenta
-unfoldable pub velocities : ℕ → ℕ → ℤ → List ℕ → List ℤ → List ℤ
-velocities d n g mass momentum = map (λ k. velocityOf d g (getD mass k 0) (getD momentum k (pos 0))) (upTo n)
-
--- grids of n nodes; D, gravity and every node within their limits
-pub record GridLimits (d n : ℕ) (gx gy : ℤ) (mass : List ℕ) (px py : List ℤ) : Type 0 where
-  pub spread : Spread d
-  pub mass-length : length mass ≡ n
-  pub px-length : length px ≡ n
-  pub py-length : length py ≡ n
-  pub gravity-x : natAbs gx ≤ mostGravity
-  pub gravity-y : natAbs gy ≤ mostGravity
-  pub nodes : (k : ℕ) → k < n → NodeLimits d gx gy (getD mass k 0) (getD px k (pos 0)) (getD py k (pos 0))
+-- the velocities on one axis, from the masses and the momenta: after gravity, drag and rim
+unfoldable pub velocities : ℕ → Settings → Axis → List ℕ → List ℤ → List ℤ
+velocities d s a mass momentum =
+    map (λ k. updatedVelocity rounded d s a (k % s .nx) (k / s .nx) (getD mass k 0) (getD momentum k (pos 0))) (upTo (s .nx * s .ny))
 
 -- ---- the operation
 
@@ -75,11 +66,11 @@ abbrev pub toldUpdate : Updated → Answer Unit
 toldUpdate Done = done
 toldUpdate (Refused e) = refusedBy e
 
--- 2; 1 for the grid buffers; 10; then for each node 11, 12
-unfoldable pub updateAnswer : ℕ → ℕ → ℤ → ℤ → List ℕ → List ℤ → List ℤ → Answer Unit
-updateAnswer nx ny gx gy mass px py =
-    andThen (beginAnswer (record { nx = nx; ny = ny; gx = gx; gy = gy }) (Three (length mass) (length px) (length py)) 0 0)
-    (λ _. checkNodes D (nx * ny) gx gy mass px py)
+-- 2; 1 for the grid buffers; 10; 18; 19; then for each node 11, 12
+unfoldable pub updateAnswer : Settings → List ℕ → List ℤ → List ℤ → Answer Unit
+updateAnswer s mass px py =
+    andThen (beginAnswer s (Three (length mass) (length px) (length py)) 0 0)
+    (λ _. checkNodes D (s .nx * s .ny) (s .gx) (s .gy) mass px py)
 
 -- the grids of both axes
 pub record BothAxes : Type 0 where
@@ -90,7 +81,7 @@ abbrev pub bothAxes : List ℤ → List ℤ → BothAxes
 bothAxes x y = record { x = x; y = y }
 
 -- the answer of a call, and both grids as it leaves them: velocity takes the momentum's place; a refused call leaves it unchanged
-abbrev pub UpdateIs : ℕ → ℕ → ℤ → ℤ → List ℕ → List ℤ → List ℤ → Answer Unit → List ℤ → List ℤ → Type 0
-UpdateIs nx ny gx gy mass px py told px′ py′ =
-    Leaves (updateAnswer nx ny gx gy mass px py)
-    (λ _. bothAxes (velocities D (nx * ny) gx mass px) (velocities D (nx * ny) gy mass py)) (bothAxes px py) told (bothAxes px′ py′)
+abbrev pub UpdateIs : Settings → List ℕ → List ℤ → List ℤ → Answer Unit → List ℤ → List ℤ → Type 0
+UpdateIs s mass px py told px′ py′ =
+    Leaves (updateAnswer s mass px py)
+    (λ _. bothAxes (velocities D s alongX mass px) (velocities D s alongY mass py)) (bothAxes px py) told (bothAxes px′ py′)

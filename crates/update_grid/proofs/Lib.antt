@@ -1,1 +1,1 @@
-pub mod Fill
+pub mod Passes

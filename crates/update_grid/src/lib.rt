@@ -1,11 +1,13 @@
-// The update of a grid's nodes: velocity takes the momentum's place, after gravity.
+// The update of a grid's nodes: velocity takes the momentum's place, after gravity, drag and rim.
 ghost use mathlib.Core.Path.{_≡_};
 ghost use Prim.Native.Nat.{_≤_};
 ghost use lib.ListN.{length};
 ghost use lib.IntN.{natAbs};
 ghost use Rattle.limits.specs.Limits.{mostGravity};
 ghost use Rattle.spline.specs.Kernel.{Spread};
-ghost use Rattle.update.specs.Update.{toldUpdate, checkNodes, velocities, GridLimits, UpdateIs};
+ghost use Rattle.apic.specs.Step.{alongX, alongY};
+ghost use Rattle.update.specs.Update.{toldUpdate, checkNodes, velocities, UpdateIs};
+ghost use Rattle.update.specs.Internal.{accelerated, NodesWithin, GridLimits};
 use entry::Begun;
 use entry::Buffers;
 use settings::Settings;
@@ -38,18 +40,10 @@ fn check_nodes(
     Updated::Done
 }
 
-// Both axes of every node, where none breaks a limit. `update` and the step call it.
-pub fn update_all(
-    count: usize,
-    d: u64,
-    gx: i64,
-    gy: i64,
-    mass: &[u64],
-    px: &mut [i64],
-    py: &mut [i64],
-)
-    requires { ⌜ GridLimits d count gx gy (now mass) (now px) (now py) ⌝ }
-    ensures { λ _. ⌜ (now (px .exit) ≡ velocities d count gx (now (mass .entry)) (now (px .entry))) × (now (py .exit) ≡ velocities d count gy (now (mass .entry)) (now (py .entry))) ⌝ }
+// Both axes of every node after gravity, where none breaks a limit. `update_all` calls it.
+fn accelerate(count: usize, d: u64, gx: i64, gy: i64, mass: &[u64], px: &mut [i64], py: &mut [i64])
+    requires { ⌜ NodesWithin d count gx gy (now mass) (now px) (now py) ⌝ }
+    ensures { λ _. ⌜ (now (px .exit) ≡ accelerated d count gx (now (mass .entry)) (now (px .entry))) × (now (py .exit) ≡ accelerated d count gy (now (mass .entry)) (now (py .entry))) ⌝ }
 {
     let mut k = 0;
     while k < count {
@@ -63,30 +57,40 @@ pub fn update_all(
     }
 }
 
-// Velocity takes the momentum's place in px and py: momentum/(4·mass), rounded, plus gravity, and 0 at a node without mass.
-// A refused call leaves both as they were.
-pub fn update(
-    nx: usize,
-    ny: usize,
-    gx: i64,
-    gy: i64,
-    mass: &[u64],
-    px: &mut [i64],
-    py: &mut [i64],
-) -> Updated
-    ensures { λ r. ⌜ UpdateIs nx ny gx gy (now (mass .entry)) (now (px .entry)) (now (py .entry)) (toldUpdate r) (now (px .exit)) (now (py .exit)) ⌝ }
+// Both axes of every node, where none breaks a limit: gravity, drag, rim. `update` and the step call it.
+pub fn update_all(settings: Settings, d: u64, mass: &[u64], px: &mut [i64], py: &mut [i64])
+    requires { ⌜ GridLimits d settings (now mass) (now px) (now py) ⌝ }
+    ensures { λ _. ⌜ (now (px .exit) ≡ velocities d settings alongX (now (mass .entry)) (now (px .entry))) × (now (py .exit) ≡ velocities d settings alongY (now (mass .entry)) (now (py .entry))) ⌝ }
 {
-    let settings = Settings { nx, ny, gx, gy };
+    accelerate(
+        settings.nx * settings.ny,
+        d,
+        settings.gx,
+        settings.gy,
+        mass,
+        px,
+        py,
+    );
+    update_drag::slow(settings.drag, px);
+    update_drag::slow(settings.drag, py);
+    update_rim::hold(settings, px, py);
+}
+
+// Velocity takes the momentum's place in px and py: momentum/(4·mass), rounded, plus gravity, and 0 at a node without mass;
+// then drag, then the rim. A refused call leaves both as they were.
+pub fn update(settings: Settings, mass: &[u64], px: &mut [i64], py: &mut [i64]) -> Updated
+    ensures { λ r. ⌜ UpdateIs settings (now (mass .entry)) (now (px .entry)) (now (py .entry)) (toldUpdate r) (now (px .exit)) (now (py .exit)) ⌝ }
+{
     let buffers = Buffers::Three(mass.len(), px.len(), py.len());
     match entry::begin(settings, buffers, 0, 0) {
         Begun::Refused(refusal) => return Updated::Refused(refusal),
         Begun::Done => {}
     }
-    let count = nx * ny;
-    match check_nodes(count, spline::D, gx, gy, mass, px, py) {
+    let count = settings.nx * settings.ny;
+    match check_nodes(count, spline::D, settings.gx, settings.gy, mass, px, py) {
         Updated::Refused(refusal) => Updated::Refused(refusal),
         Updated::Done => {
-            update_all(count, spline::D, gx, gy, mass, px, py);
+            update_all(settings, spline::D, mass, px, py);
             Updated::Done
         }
     }

@@ -1,26 +1,25 @@
 -- A particle or a header whose numbers are cut to 16 bits is written as it would be with the numbers themselves.
 -- Assumes nothing.
-use mathlib.Core.Path.{_≡_, refl, ap, ap₂, _∙_}
+use mathlib.Core.Path.{_≡_, refl, sym, ap, ap₂, _∙_}
 use mathlib.Core.Bool.{not, _&&_}
 use mathlib.Core.List.{List}
 use Prim.Native.Nat.{ℕ}
 use native.Mathlib.Omega.{arith}
-use lib.Dec.{lit<, lit≤, ltb, eqb}
+use lib.Dec.{lit<, lit≤, eqb}
 use lib.IntN.{ℤ}
 use lib.ListN.{length}
 use Rattle.refusal.specs.Refused.{Answer, result, refused, refuseIf, keptUnless}
 use Rattle.refusal.proofs.Answers.{length-passed}
-use Rattle.limits.specs.Limits.{leastMass, mostMass, mostVelocity, mostAffine, mostRecords, mostGravity, mostSteps, validMass, validPosition, validVelocity, validAffine, validGravity}
+use Rattle.limits.specs.Limits.{leastMass, mostMass, mostVelocity, mostAffine, mostGravity, validMass, validPosition, validVelocity, validAffine, validGravity}
 use Rattle.particle.specs.declared.Particle.{Particle}
 use Rattle.particle.specs.Layout.{recordLength}
 use Rattle.particle.specs.Record.{recordOf, writeParticle, writeAnswer, written}
 use Rattle.particle.proofs.Valid.{write-valid}
-use Rattle.particles.specs.Set.{validSize}
 use Rattle.bath_file.specs.declared.Header.{Header}
 use Rattle.bath_file.specs.Layout.{headerLength}
 use Rattle.bath_file.specs.File.{checkedHeader, headerOf}
 use Rattle.bath_file.specs.File as file
-use Rattle.bath_file.proofs.Checks.{valid}
+use Rattle.bath_file.proofs.Checks.{header-checked, valid}
 use Rattle.wide.specs.Internal.{capped, clamped, SameRecord, SameHeader}
 use Rattle.wide.proofs.Narrowing.{same-most, same-least, kept, same-within, within-kept}
 
@@ -115,6 +114,9 @@ narrowedHeader h =
       gy = clamped (h .gy);
       count = h .count;
       steps = h .steps;
+      kind = h .kind;
+      width = h .width;
+      drag = h .drag;
     }
 
 gravity : (g : ℤ) → validGravity (clamped g) ≡ validGravity g
@@ -122,14 +124,9 @@ gravity = same-within mostGravity (lit< tt)
 
 module _ (h : Header) where
   same-checked : checkedHeader {A = Unit} (narrowedHeader h) (result tt) ≡ checkedHeader h (result tt)
-  unfolding checkedHeader
   same-checked =
-      λ i.
-      refuseIf (not (validSize (h .nx) (h .ny))) 2 0
-      (refuseIf (not (gravity (h .gx) i && gravity (h .gy) i)) 10 0
-      (refuseIf (ltb mostRecords (h .count)) 3 0
-      (refuseIf (ltb mostSteps (h .steps)) 17 0
-      (result tt))))
+      header-checked (narrowedHeader h) (result tt) refl (ap₂ _&&_ (gravity (h .gx)) (gravity (h .gy))) refl refl refl refl
+      ∙ sym (header-checked h (result tt) refl refl refl refl refl refl)
 
   same-values : checkedHeader {A = Unit} h (result tt) ≡ result tt → narrowedHeader h ≡ h
   same-values e =
@@ -142,6 +139,9 @@ module _ (h : Header) where
         gy = within-kept (h .gy) (v .gy-to) (lit< tt) i;
         count = h .count;
         steps = h .steps;
+        kind = h .kind;
+        width = h .width;
+        drag = h .drag;
       }
 
   pub same-header : SameHeader (narrowedHeader h) h

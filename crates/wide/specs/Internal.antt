@@ -29,9 +29,12 @@ pub record SameHeader (h k : Header) : Type 0 where
   pub answer : (bytes : List ℕ) → file.writeAnswer h bytes ≡ file.writeAnswer k bytes
   pub buffer : (bytes : List ℕ) → file.written h bytes ≡ file.written k bytes
 
--- a header whose numbers of nodes, records and steps are small
+-- a header whose numbers, but for gravity, are small
 pub record Narrow (h : Header) : Type 0 where
   pub nx : h .nx < 65536
   pub ny : h .ny < 65536
   pub count : h .count < 65536
   pub steps : h .steps < 65536
+  pub kind : h .kind < 65536
+  pub width : h .width < 65536
+  pub drag : h .drag < 65536

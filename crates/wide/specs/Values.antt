@@ -25,8 +25,8 @@ particleWith identifier mass x y vx vy bxx bxy byx byy =
       byy = byy;
     }
 
-abbrev pub headerWith : ℕ → ℕ → ℤ → ℤ → ℕ → ℕ → Header
-headerWith nx ny gx gy count steps =
+abbrev pub headerWith : ℕ → ℕ → ℤ → ℤ → ℕ → ℕ → ℕ → ℕ → ℕ → Header
+headerWith nx ny gx gy count steps kind width drag =
     record {
       nx = nx;
       ny = ny;
@@ -34,6 +34,9 @@ headerWith nx ny gx gy count steps =
       gy = gy;
       count = count;
       steps = steps;
+      kind = kind;
+      width = width;
+      drag = drag;
     }
 
 -- the lower, the nearest and the upper weight
@@ -44,6 +47,6 @@ weightValues w = w .lower ∷ w .nearest ∷ w .upper ∷ []
 abbrev pub sums : Totals → List ℤ
 sums t = pos (t .mass) ∷ t .px ∷ t .py ∷ t .spin ∷ t .motion ∷ []
 
--- Nx, Ny, gx, gy, count, steps
+-- Nx, Ny, gx, gy, count, steps, kind, width, drag
 abbrev pub settings : Header → List ℤ
-settings h = pos (h .nx) ∷ pos (h .ny) ∷ h .gx ∷ h .gy ∷ pos (h .count) ∷ pos (h .steps) ∷ []
+settings h = pos (h .nx) ∷ pos (h .ny) ∷ h .gx ∷ h .gy ∷ pos (h .count) ∷ pos (h .steps) ∷ pos (h .kind) ∷ pos (h .width) ∷ pos (h .drag) ∷ []

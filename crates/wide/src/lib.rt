@@ -17,7 +17,7 @@ ghost use Rattle.wide.specs.Internal.{SameRecord, SameHeader, Narrow};
 // How many values the totals and a header have.
 pub const SUMS: usize = 5;
 
-pub const SETTINGS: usize = 6;
+pub const SETTINGS: usize = 9;
 
 // The particle to write for these numbers: a write answers and leaves what it would for the numbers themselves.
 pub fn particle(
@@ -49,8 +49,18 @@ pub fn particle(
 }
 
 // The header to write for these numbers, in the same way.
-pub fn header(nx: usize, ny: usize, gx: i64, gy: i64, count: usize, steps: usize) -> Header
-    ensures { λ r. ⌜ SameHeader r (headerWith nx ny gx gy count steps) ⌝ }
+pub fn header(
+    nx: usize,
+    ny: usize,
+    gx: i64,
+    gy: i64,
+    count: usize,
+    steps: usize,
+    kind: usize,
+    width: usize,
+    drag: usize,
+) -> Header
+    ensures { λ r. ⌜ SameHeader r (headerWith nx ny gx gy count steps kind width drag) ⌝ }
 {
     Header {
         nx,
@@ -59,6 +69,9 @@ pub fn header(nx: usize, ny: usize, gx: i64, gy: i64, count: usize, steps: usize
         gy: narrow::signed(gy),
         count,
         steps,
+        kind,
+        width,
+        drag,
     }
 }
 
@@ -89,5 +102,8 @@ pub fn of_header(h: Header) -> [i64; SETTINGS]
         h.gy as i64,
         h.count as i64,
         h.steps as i64,
+        h.kind as i64,
+        h.width as i64,
+        h.drag as i64,
     ]
 }

@@ -2,13 +2,14 @@
 
 use std::fmt;
 
-use engine::{GridBuffers, Header, Particle, Settings, Size, HEADER_LENGTH, RECORD_LENGTH};
+use engine::{Edge, GridBuffers, Header, Particle, Settings, Size};
+use engine::{HEADER_LENGTH, RECORD_LENGTH};
 use reference::generator::Generator;
 
 /// A bath with a run that completes.
 #[derive(Clone, Debug)]
 pub struct Bath {
-    /// The grid's size and gravity.
+    /// The grid's size, gravity, edge and drag.
     pub settings: Settings,
     /// The records.
     pub records: Vec<u8>,
@@ -28,7 +29,7 @@ impl Bath {
     }
 
     /// Particles two and two against each other, a node's width and more from each side, without
-    /// gravity.
+    /// gravity, with open edges and without drag.
     fn of_seed(seed: u64, count: usize, side: usize, steps: usize) -> Self {
         let mut numbers = Generator::new(seed);
         let (low, high) = (128, 64 * (side as i128 - 1) - 129);
@@ -63,6 +64,8 @@ impl Bath {
             size: Size { nx: side, ny: side },
             gx: 0,
             gy: 0,
+            edge: Edge::Open,
+            drag: 0,
         };
         Bath {
             settings,
@@ -101,12 +104,21 @@ impl Bath {
 
     /// The bath as a file.
     pub fn file(&self) -> Vec<u8> {
+        let Settings {
+            size,
+            gx,
+            gy,
+            edge,
+            drag,
+        } = self.settings;
         let header = Header {
-            size: self.settings.size,
-            gx: 0,
-            gy: 0,
+            size,
+            gx,
+            gy,
             count: self.count(),
             steps: self.steps,
+            edge,
+            drag,
         };
         let mut file = vec![0; HEADER_LENGTH];
         engine::write_header(&header, &mut file).expect("a header in range");

@@ -1,6 +1,7 @@
 //! What is timed: every operation on a bath.
 
-use engine::{read_record, GridBuffers, Header, Particle, HEADER_LENGTH, RECORD_LENGTH};
+use engine::{read_record, Edge, GridBuffers, Header, Particle, Settings};
+use engine::{HEADER_LENGTH, RECORD_LENGTH};
 
 use crate::bath::Bath;
 use crate::library::{Library, PROVED};
@@ -10,7 +11,8 @@ use crate::measure::Subject;
 #[derive(Clone, Copy, Debug, PartialEq, Eq)]
 #[allow(missing_docs)]
 pub enum Line {
-    Run,
+    /// A run with an edge, open or sticky, and a drag.
+    Run(Edge, usize),
     Step,
     Scatter,
     Update,
@@ -25,9 +27,15 @@ pub enum Line {
 }
 
 impl Line {
+    /// A run with open edges and without drag.
+    pub const RUN: Line = Line::Run(Edge::Open, 0);
+
     /// All of them.
-    pub const ALL: [Line; 12] = [
-        Line::Run,
+    pub const ALL: [Line; 15] = [
+        Line::RUN,
+        Line::Run(Edge::Sticky(2), 0),
+        Line::Run(Edge::Open, 9),
+        Line::Run(Edge::Sticky(2), 9),
         Line::Step,
         Line::Scatter,
         Line::Update,
@@ -44,7 +52,10 @@ impl Line {
     /// What the table calls it.
     pub fn name(self) -> &'static str {
         match self {
-            Line::Run => "a run's step",
+            Line::Run(Edge::Open, 0) => "a run's step",
+            Line::Run(_, 0) => "a run's step, sticky edge",
+            Line::Run(Edge::Open, _) => "a run's step, drag",
+            Line::Run(..) => "a run's step, sticky edge and drag",
             Line::Step => "step",
             Line::Scatter => "scatter",
             Line::Update => "update",
@@ -108,7 +119,7 @@ impl Timed {
     /// How many steps or records one call stands for.
     pub fn parts(&self) -> usize {
         match self.line {
-            Line::Run => self.bath.steps,
+            Line::Run(..) => self.bath.steps,
             Line::ReadRecords | Line::WriteRecords | Line::Weights | Line::WriteHeaders => {
                 self.particles.len()
             }
@@ -124,7 +135,7 @@ impl Subject for Timed {
                 self.grid[0].copy_from_slice(&self.momentum[0]);
                 self.grid[1].copy_from_slice(&self.momentum[1]);
             }
-            Line::Gather | Line::Step | Line::Run => {
+            Line::Gather | Line::Step | Line::Run(..) => {
                 self.records.copy_from_slice(&self.bath.records)
             }
             _ => {}
@@ -144,10 +155,14 @@ impl Subject for Timed {
             y,
         };
         let answer = match self.line {
-            Line::Run => {
+            Line::Run(edge, drag) => {
                 let mut completed = 0;
                 let answer = library.run(
-                    settings,
+                    Settings {
+                        edge,
+                        drag,
+                        ..settings
+                    },
                     steps,
                     &mut self.records,
                     &mut grid,
@@ -165,7 +180,7 @@ impl Subject for Timed {
             }
             Line::CheckSet => library.check_set(settings.size, records, &mut 0),
             Line::Totals => library.totals(settings.size, records, &mut [0; 5]),
-            Line::ReadFile => library.read_file(&self.file, &mut [0; 6]),
+            Line::ReadFile => library.read_file(&self.file, &mut [0; 9]),
             Line::ReadRecords => {
                 let mut values = [0; 10];
                 let records = records.chunks_exact(RECORD_LENGTH);
@@ -193,6 +208,8 @@ impl Subject for Timed {
                     gy: p.bxy,
                     count: p.x as usize,
                     steps: p.y as usize,
+                    edge: Edge::Slip(3),
+                    drag: p.mass as usize,
                 });
                 headers.fold(0, |answer, header| {
                     answer | library.write_header(&header, &mut bytes)

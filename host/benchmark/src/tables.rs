@@ -65,9 +65,9 @@ pub fn tables(
         let growing = [256, 1024, 4096].map(|count| Bath::new(count, 48, 40));
         let widening = [12, 24, 48].map(|side| Bath::new(64, side, 40));
         for baths in [growing, widening] {
-            start(Line::Run.name());
+            start(Line::RUN.name());
             for bath in &baths {
-                line(&bath.to_string(), Line::Run, bath);
+                line(&bath.to_string(), Line::RUN, bath);
             }
         }
     }

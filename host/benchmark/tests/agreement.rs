@@ -21,8 +21,11 @@ fn call(library: &Library, operation: Operation, before: &Buffers) -> (u64, Vec<
     (answer, values, after)
 }
 
+/// Makes an input.
+type Make = fn(&mut Generator) -> Call;
+
 /// The proved engine and another library on many inputs.
-fn agree_with(other: &Library, name: &str, make: fn(&mut Generator) -> Call, count: u64) {
+fn agree_with(other: &Library, name: &str, make: Make, count: u64) {
     for k in 0..count {
         let (operation, before) = make(&mut stream(name, k));
         let proved = call(&PROVED, operation, &before);
@@ -35,7 +38,7 @@ fn agree_with(other: &Library, name: &str, make: fn(&mut Generator) -> Call, cou
 }
 
 /// Both libraries on many inputs.
-fn agree(name: &str, make: fn(&mut Generator) -> Call) {
+fn agree(name: &str, make: Make) {
     agree_with(&OPTIMISED, name, make, count());
 }
 
@@ -56,7 +59,7 @@ agreement! {
 }
 
 /// The operations whose calls have arguments of every kind, and the most of them.
-const SOME: [(&str, fn(&mut Generator) -> Call); 4] = [
+const SOME: [(&str, Make); 4] = [
     ("write_record", inputs::write_record),
     ("update", inputs::update),
     ("gather", inputs::gather),
@@ -97,12 +100,15 @@ fn sizes_of_sets() {
         let grid = reference::Grid::filled(at.nodes(), 3, 2, -1);
         let before = Buffers { bytes, grid };
         let given = reference::Settings::new(at, 1, -1);
+        let hindered = given.with_edge(reference::Edge::slip(1)).with_drag(30);
         let operations = [
             Operation::CheckSet(at),
             Operation::Scatter(at),
             Operation::Gather(at),
             Operation::Step(given),
             Operation::Run(given, 3),
+            Operation::Step(hindered),
+            Operation::Run(hindered, 3),
         ];
         for operation in operations {
             let proved = call(&PROVED, operation, &before);

@@ -2,9 +2,10 @@
 
 use engine::library::Library;
 use engine::GridBuffers;
+use reference::edge::{OPEN, SLIP, STICKY};
 use reference::simulation::{run_by, step_by};
 use reference::transfer::{gather_by, scatter_by};
-use reference::{Header, Particle, Refusal, RunAnswer, Settings, Size, Sums, Totals};
+use reference::{Edge, Header, Particle, Refusal, RunAnswer, Settings, Size, Sums, Totals};
 use vectors::{Answer, Buffers, Operation};
 
 /// A refusal in the reference's type.
@@ -20,12 +21,35 @@ fn size(size: Size) -> Option<engine::Size> {
     })
 }
 
+/// An edge in the engine's type: by its name where it has one, and by its numbers else.
+fn to_edge(edge: Edge) -> Option<engine::Edge> {
+    let (kind, width) = (edge.kind.try_into().ok()?, edge.width.try_into().ok()?);
+    Some(match (edge.kind, width) {
+        (OPEN, 0) => engine::Edge::Open,
+        (STICKY, width) => engine::Edge::Sticky(width),
+        (SLIP, width) => engine::Edge::Slip(width),
+        _ => engine::Edge::Numbered { kind, width },
+    })
+}
+
+/// A file's edge in the reference's type.
+fn from_edge(edge: engine::Edge) -> Edge {
+    match edge {
+        engine::Edge::Open => Edge::OPEN,
+        engine::Edge::Sticky(width) => Edge::sticky(width as i128),
+        engine::Edge::Slip(width) => Edge::slip(width as i128),
+        engine::Edge::Numbered { .. } => panic!("a file's edge without a name: {edge:?}"),
+    }
+}
+
 /// Settings in the engine's type.
 fn settings(settings: Settings) -> Option<engine::Settings> {
     Some(engine::Settings {
         size: size(settings.size)?,
         gx: settings.gx.try_into().ok()?,
         gy: settings.gy.try_into().ok()?,
+        edge: to_edge(settings.edge)?,
+        drag: settings.drag.try_into().ok()?,
     })
 }
 
@@ -74,12 +98,21 @@ fn from_totals(totals: engine::Totals) -> Totals {
 
 /// A header in the engine's type.
 fn to_header(header: Header) -> Option<engine::Header> {
+    let engine::Settings {
+        size,
+        gx,
+        gy,
+        edge,
+        drag,
+    } = settings(header.settings)?;
     Some(engine::Header {
-        size: size(header.settings.size)?,
-        gx: header.settings.gx.try_into().ok()?,
-        gy: header.settings.gy.try_into().ok()?,
+        size,
+        gx,
+        gy,
         count: header.count.try_into().ok()?,
         steps: header.steps.try_into().ok()?,
+        edge,
+        drag,
     })
 }
 
@@ -88,7 +121,9 @@ fn from_header(header: engine::Header) -> Header {
     let engine::Size { nx, ny } = header.size;
     let size = Size::new(nx as i128, ny as i128);
     Header {
-        settings: Settings::new(size, header.gx.into(), header.gy.into()),
+        settings: Settings::new(size, header.gx.into(), header.gy.into())
+            .with_edge(from_edge(header.edge))
+            .with_drag(header.drag as i128),
         count: header.count as i128,
         steps: header.steps as i128,
     }

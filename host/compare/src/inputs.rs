@@ -2,7 +2,7 @@
 
 use reference::generator::Generator;
 use reference::particle_set::pack_records;
-use reference::{Grid, Header, Particle, Settings, Size};
+use reference::{Edge, Grid, Header, Particle, Settings, Size};
 use vectors::{Buffers, Operation};
 
 /// A number at an end of its range, one beyond, inside, inside but for a higher bit that a narrower
@@ -51,7 +51,27 @@ fn ground(size: Size) -> Size {
     Size::new(size.nx.clamp(4, 48), size.ny.clamp(4, 48))
 }
 
-/// Settings: mostly accepted gravity.
+/// An edge: mostly accepted, and one in four times open.
+fn edge(numbers: &mut Generator) -> Edge {
+    match numbers.between(0, 39) {
+        0 => Edge::new(near(numbers, (0, 2), USIZE), numbers.between(0, 3)),
+        1 => Edge::new(numbers.between(0, 3), near(numbers, (0, 3), USIZE)),
+        2..=9 => Edge::OPEN,
+        _ => numbers.edge(),
+    }
+}
+
+/// A drag: mostly accepted, and one in three times none.
+fn drag(numbers: &mut Generator) -> i128 {
+    match numbers.between(0, 39) {
+        0 => near(numbers, (0, 255), USIZE),
+        1..=12 => 0,
+        13..=19 => numbers.one_of(&[1, 2, 127, 128, 129, 254, 255]),
+        _ => numbers.between(0, 255),
+    }
+}
+
+/// Settings: mostly accepted.
 fn settings(numbers: &mut Generator, size: Size) -> Settings {
     let strongest = numbers.one_of(&[0, 10, 200, 4096]);
     let mut gravity = || match numbers.between(0, 29) {
@@ -61,6 +81,8 @@ fn settings(numbers: &mut Generator, size: Size) -> Settings {
     };
     let (gx, gy) = (gravity(), gravity());
     Settings::new(size, gx, gy)
+        .with_edge(edge(numbers))
+        .with_drag(drag(numbers))
 }
 
 /// A particle on the grid with every number in its range, ends included.
@@ -353,9 +375,15 @@ pub fn step(numbers: &mut Generator) -> Call {
     (Operation::Step(settings), Buffers { bytes, grid })
 }
 
-/// The number of steps of a run: mostly few.
-fn steps(numbers: &mut Generator) -> i128 {
+/// Whether edges or drag can keep particles from leaving: a long run then takes all of its steps.
+fn holds(settings: Settings) -> bool {
+    settings.edge != Edge::OPEN || settings.drag > 0
+}
+
+/// The number of steps of a run: mostly few, and rarely very many that are taken.
+fn steps(numbers: &mut Generator, settings: Settings) -> i128 {
     match numbers.between(0, 79) {
+        0 if holds(settings) && !numbers.once_in(30) => numbers.one_of(&[10_001, 1 << 32, USIZE.1]),
         0 => near(numbers, (9_999, 10_000), USIZE),
         1 => numbers.between(100, 400),
         2..=9 => 0,
@@ -368,28 +396,49 @@ pub fn run(numbers: &mut Generator) -> Call {
     let (Operation::Step(settings), buffers) = step(numbers) else {
         unreachable!("a step");
     };
-    (Operation::Run(settings, steps(numbers)), buffers)
+    (Operation::Run(settings, steps(numbers, settings)), buffers)
 }
 
-/// A header, its numbers within what `kinds` says of gravity, and of the others.
-fn header(numbers: &mut Generator, size: Size, count: usize, kinds: [Ends; 4]) -> Header {
-    let [side, gravity, counts, steps] = kinds;
-    let mut header = Header {
-        settings: Settings::new(
-            size,
-            numbers.between(-4096, 4096),
-            numbers.between(-4096, 4096),
-        ),
-        count: count as i128,
-        steps: numbers.one_of(&[0, 1, 10_000, 77]),
+/// What the numbers of a header are within.
+struct HeaderEnds {
+    side: Ends,
+    gravity: Ends,
+    count: Ends,
+    steps: Ends,
+    kind: Ends,
+    width: Ends,
+    drag: Ends,
+}
+
+/// A header, mostly accepted, its numbers within these ends.
+fn header(numbers: &mut Generator, size: Size, count: usize, ends: HeaderEnds) -> Header {
+    let settings = Settings::new(
+        size,
+        numbers.between(-4096, 4096),
+        numbers.between(-4096, 4096),
+    )
+    .with_edge(numbers.edge())
+    .with_drag(numbers.between(0, 255));
+    let many = if holds(settings) && !numbers.once_in(30) {
+        9
+    } else {
+        10_000
     };
-    match numbers.between(0, 11) {
-        0 => header.settings.gx = near(numbers, (-4096, 4096), gravity),
-        1 => header.settings.gy = near(numbers, (-4096, 4096), gravity),
-        2 => header.count = near(numbers, (0, 4096), counts),
-        3 => header.steps = near(numbers, (0, 10_000), steps),
-        4 => header.settings.size.nx = near(numbers, (4, 48), side),
-        5 => header.settings.size.ny = near(numbers, (4, 48), side),
+    let mut header = Header {
+        settings,
+        count: count as i128,
+        steps: numbers.one_of(&[0, 1, many, 77]),
+    };
+    match numbers.between(0, 17) {
+        0 => header.settings.gx = near(numbers, (-4096, 4096), ends.gravity),
+        1 => header.settings.gy = near(numbers, (-4096, 4096), ends.gravity),
+        2 => header.count = near(numbers, (0, 4096), ends.count),
+        3 => header.steps = near(numbers, (0, 10_000), ends.steps),
+        4 => header.settings.size.nx = near(numbers, (4, 48), ends.side),
+        5 => header.settings.size.ny = near(numbers, (4, 48), ends.side),
+        6 => header.settings.edge.kind = near(numbers, (0, 2), ends.kind),
+        7 => header.settings.edge.width = near(numbers, (0, 3), ends.width),
+        8 => header.settings.drag = near(numbers, (0, 255), ends.drag),
         _ => {}
     }
     header
@@ -400,28 +449,44 @@ pub fn read_file(numbers: &mut Generator) -> Call {
     let size = numbers.size();
     let set = records(numbers, size);
     let count = set.len() / 14;
-    let kinds = [(0, 63), (-8192, 8191), (0, 8191), (0, 16_383)];
+    let fields = HeaderEnds {
+        side: (0, 63),
+        gravity: (-8192, 8191),
+        count: (0, 8191),
+        steps: (0, 16_383),
+        kind: (0, 3),
+        width: (0, 3),
+        drag: (0, 255),
+    };
     let spare = if numbers.once_in(12) {
-        numbers.between(1, 31)
+        1 << numbers.between(0, 8)
     } else {
         0
     };
-    let mut file = header(numbers, size, count, kinds).pack(spare).to_vec();
+    let mut file = header(numbers, size, count, fields).pack(spare).to_vec();
     file.extend(set);
     match numbers.between(0, 19) {
         0 => file.truncate(place(numbers, file.len())),
         1 | 2 => damage(numbers, &mut file),
-        3 => file.truncate(numbers.between(0, 10) as usize),
+        3 => file.truncate(numbers.between(0, 12) as usize),
         _ => {}
     }
     (Operation::ReadFile, only(file))
 }
 
-/// Settings that a file holds, mostly with gravity weak enough for some steps.
+/// Settings that a file holds, mostly with gravity weak enough for some steps, and with open edges or
+/// without drag every other time.
 fn file_settings(numbers: &mut Generator, size: Size) -> Settings {
     let strongest = numbers.one_of(&[0, 40, 300, 300, 1_000, 4_096]);
     let gx = numbers.between(-strongest, strongest);
-    Settings::new(size, gx, numbers.between(-strongest, strongest))
+    let mut settings = Settings::new(size, gx, numbers.between(-strongest, strongest));
+    if numbers.once_in(2) {
+        settings.edge = numbers.edge();
+    }
+    if numbers.once_in(2) {
+        settings.drag = numbers.one_of(&[1, 5, 40, 128, 255]);
+    }
+    settings
 }
 
 /// The bytes of a file whose header tells of its records.
@@ -500,8 +565,17 @@ pub fn bath_file(numbers: &mut Generator) -> Vec<u8> {
 pub fn write_header(numbers: &mut Generator) -> Call {
     let size = size(numbers);
     let count = numbers.between(0, 4096) as usize;
-    let header = header(numbers, size, count, [USIZE, I64, USIZE, USIZE]);
-    let length = numbers.one_of(&[9, 9, 9, 9, 9, 9, 9, 0, 8, 10, 14]);
+    let wide = HeaderEnds {
+        side: USIZE,
+        gravity: I64,
+        count: USIZE,
+        steps: USIZE,
+        kind: USIZE,
+        width: USIZE,
+        drag: USIZE,
+    };
+    let header = header(numbers, size, count, wide);
+    let length = numbers.one_of(&[11, 11, 11, 11, 11, 11, 11, 11, 0, 9, 10, 12, 14]);
     let buffer = any_bytes(numbers, length as usize);
     (Operation::WriteHeader(header), only(buffer))
 }
@@ -526,7 +600,7 @@ pub fn list_call(numbers: &mut Generator, size: Size, records: &[u8]) -> Call {
     let operation = if numbers.once_in(2) {
         Operation::Step(settings)
     } else {
-        Operation::Run(settings, steps(numbers))
+        Operation::Run(settings, steps(numbers, settings))
     };
     let bytes = records.to_vec();
     let grid = any_grid(numbers, given);

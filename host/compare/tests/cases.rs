@@ -1,12 +1,14 @@
-//! The vectors, the sample files, every offset, and the largest sets.
+//! The vectors, the sample files, every offset, numbers wider than their fields, edges by their
+//! numbers, and the largest sets.
 
 use std::path::Path;
 
 use compare::calls::{agreed, by_engine};
 use compare::inputs::{self, Ends, I64, U64, USIZE};
 use compare::{count, stream};
+use reference::limits::HEADER_LENGTH;
 use reference::report::report;
-use reference::{Grid, Header, Particle, Settings, Size};
+use reference::{Edge, Grid, Header, Particle, Settings, Size};
 use vectors::{cases, Answer, Buffers, Operation};
 
 /// Every vector but the program's.
@@ -23,7 +25,7 @@ fn vectors() {
         assert!(after == case.after, "{}: buffers differ", case.name);
         compared += 1;
     }
-    assert!(compared > 500, "only {compared} vectors");
+    assert!(compared > 1_000, "only {compared} vectors");
 }
 
 #[test]
@@ -38,67 +40,157 @@ fn offsets() {
     }
 }
 
-/// Calls both on this operation for 5 with each higher bit of a type added or taken away.
-fn wide(length: usize, kind: Ends, operation: impl Fn(i128) -> Operation) {
-    let buffers = Buffers {
-        bytes: vec![0xA5; length],
-        grid: Grid::zero(0),
+/// A field: the ends of its type, an accepted number, and how it is set.
+type Field<T> = (Ends, i128, fn(&mut T, i128));
+
+/// Calls both for the field's number with each higher bit of its type added or taken away.
+fn wide<T: Copy>(
+    (ends, accepted, set): Field<T>,
+    given: T,
+    before: &Buffers,
+    operation: impl Fn(T) -> Operation,
+) {
+    let call = |number: i128| {
+        let mut given = given;
+        set(&mut given, number);
+        let (answer, _) = agreed("wide", operation(given), before).expect("a call");
+        answer.refusal()
     };
+    assert_eq!(call(accepted), None);
     for bit in 6..64 {
-        for number in [5 + (1 << bit), 5 - (1 << bit)] {
-            if (kind.0..=kind.1).contains(&number) {
-                let (answer, _) = agreed("wide", operation(number), &buffers).expect("a call");
-                assert!(bit < 14 || answer.refusal().is_some(), "{number}");
+        for number in [accepted + (1 << bit), accepted - (1 << bit)] {
+            if (ends.0..=ends.1).contains(&number) {
+                assert!(call(number).is_some() || bit < 14, "{number}");
             }
         }
     }
 }
 
-/// A field: the ends of its type, and how it is set.
-type Field<T> = (Ends, fn(&mut T, i128));
-
-#[test]
-fn wide_numbers_of_a_record() {
-    let fields: [Field<Particle>; 9] = [
-        (U64, |p, n| p.mass = n),
-        (U64, |p, n| p.x = n),
-        (U64, |p, n| p.y = n),
-        (I64, |p, n| p.vx = n),
-        (I64, |p, n| p.vy = n),
-        (I64, |p, n| p.bxx = n),
-        (I64, |p, n| p.bxy = n),
-        (I64, |p, n| p.byx = n),
-        (I64, |p, n| p.byy = n),
-    ];
-    for (kind, set) in fields {
-        wide(14, kind, |number| {
-            let mut particle = Particle::at_rest(7, 2, 64, 64);
-            set(&mut particle, number);
-            Operation::WriteRecord(particle)
-        });
+/// A buffer of so many bytes to write to.
+fn bytes(length: usize) -> Buffers {
+    Buffers {
+        bytes: vec![0xA5; length],
+        grid: Grid::zero(0),
     }
 }
 
 #[test]
-fn wide_numbers_of_a_header() {
-    let fields: [Field<Header>; 6] = [
-        (USIZE, |h, n| h.settings.size.nx = n),
-        (USIZE, |h, n| h.settings.size.ny = n),
-        (I64, |h, n| h.settings.gx = n),
-        (I64, |h, n| h.settings.gy = n),
-        (USIZE, |h, n| h.count = n),
-        (USIZE, |h, n| h.steps = n),
+fn wide_numbers_of_a_record() {
+    let fields: [Field<Particle>; 9] = [
+        (U64, 5, |p, n| p.mass = n),
+        (U64, 5, |p, n| p.x = n),
+        (U64, 5, |p, n| p.y = n),
+        (I64, 5, |p, n| p.vx = n),
+        (I64, 5, |p, n| p.vy = n),
+        (I64, 5, |p, n| p.bxx = n),
+        (I64, 5, |p, n| p.bxy = n),
+        (I64, 5, |p, n| p.byx = n),
+        (I64, 5, |p, n| p.byy = n),
     ];
-    for (kind, set) in fields {
-        wide(9, kind, |number| {
-            let mut header = Header {
-                settings: Settings::new(Size::new(4, 4), 0, 0),
-                count: 0,
-                steps: 0,
+    for field in fields {
+        let particle = Particle::at_rest(7, 2, 64, 64);
+        wide(field, particle, &bytes(14), Operation::WriteRecord);
+    }
+}
+
+/// Sticky edges three nodes wide, and drag, on 5 by 4 nodes.
+fn forced() -> Settings {
+    Settings::new(Size::new(5, 4), 6, -7)
+        .with_edge(Edge::sticky(3))
+        .with_drag(9)
+}
+
+#[test]
+fn wide_numbers_of_a_header() {
+    let fields: [Field<Header>; 9] = [
+        (USIZE, 5, |h, n| h.settings.size.nx = n),
+        (USIZE, 5, |h, n| h.settings.size.ny = n),
+        (I64, 5, |h, n| h.settings.gx = n),
+        (I64, 5, |h, n| h.settings.gy = n),
+        (USIZE, 5, |h, n| h.count = n),
+        (USIZE, 5, |h, n| h.steps = n),
+        (USIZE, 2, |h, n| h.settings.edge.kind = n),
+        (USIZE, 2, |h, n| h.settings.edge.width = n),
+        (USIZE, 5, |h, n| h.settings.drag = n),
+    ];
+    for field in fields {
+        let header = Header {
+            settings: forced(),
+            count: 0,
+            steps: 0,
+        };
+        wide(field, header, &bytes(HEADER_LENGTH), Operation::WriteHeader);
+    }
+}
+
+#[test]
+fn wide_numbers_of_settings() {
+    let fields: [Field<Settings>; 7] = [
+        (USIZE, 5, |s, n| s.size.nx = n),
+        (USIZE, 4, |s, n| s.size.ny = n),
+        (I64, 5, |s, n| s.gx = n),
+        (I64, 5, |s, n| s.gy = n),
+        (USIZE, 2, |s, n| s.edge.kind = n),
+        (USIZE, 2, |s, n| s.edge.width = n),
+        (USIZE, 5, |s, n| s.drag = n),
+    ];
+    let before = Buffers {
+        bytes: Particle::at_rest(7, 2, 90, 70).pack().to_vec(),
+        grid: Grid::filled(20, 5, 300, -200),
+    };
+    for field in fields {
+        wide(field, forced(), &before, Operation::Update);
+        wide(field, forced(), &before, Operation::Step);
+        wide(field, forced(), &before, |given| Operation::Run(given, 2));
+    }
+}
+
+/// An open edge with a width, of any bit, is refused.
+#[test]
+fn wide_open_edges() {
+    for width in (0..64).map(|bit| 1 << bit) {
+        let settings = forced().with_edge(Edge::new(0, width));
+        let before = Buffers {
+            bytes: Vec::new(),
+            grid: Grid::zero(20),
+        };
+        for operation in [
+            Operation::Update(settings),
+            Operation::Step(settings),
+            Operation::Run(settings, 0),
+        ] {
+            let (answer, _) = agreed("a wide open edge", operation, &before).expect("a call");
+            assert_eq!(answer.refusal().map(|refusal| refusal.number), Some(18));
+        }
+    }
+}
+
+/// An edge by its numbers is the one by its name.
+#[test]
+fn edges_by_their_numbers() {
+    let named = [
+        engine::Edge::Open,
+        engine::Edge::Sticky(1),
+        engine::Edge::Slip(2),
+        engine::Edge::Sticky(4),
+    ];
+    for edge in named {
+        let (kind, width) = (edge.kind(), edge.width());
+        let numbered = engine::Edge::Numbered { kind, width };
+        let [one, other] = [edge, numbered].map(|edge| {
+            let mut grid = Grid::filled(42, 5, 300, -200);
+            let settings = engine::Settings {
+                size: engine::Size { nx: 7, ny: 6 },
+                gx: 9,
+                gy: -8,
+                edge,
+                drag: 50,
             };
-            set(&mut header, number);
-            Operation::WriteHeader(header)
+            let Grid { mass, x, y } = &mut grid;
+            let answer = engine::update(settings, &mut engine::GridBuffers { mass, x, y });
+            (answer, grid)
         });
+        assert_eq!(one, other, "{edge:?}");
     }
 }
 
@@ -118,7 +210,7 @@ fn text(file: &[u8]) -> String {
     let Header {
         settings, steps, ..
     } = settings;
-    buffers.bytes.drain(..9);
+    buffers.bytes.drain(..HEADER_LENGTH);
     buffers.grid = Grid::zero(settings.size.nodes());
     let Some(Answer::Ran(answer)) = by_engine(Operation::Run(settings, steps), &mut buffers) else {
         panic!("a run");
@@ -141,7 +233,7 @@ fn samples() {
             found += 1;
         }
     }
-    assert!(found >= 6, "only {found} samples");
+    assert!(found >= 10, "only {found} samples");
 }
 
 /// Sets of 4096 records, one less and one more, on the largest grid.
@@ -160,7 +252,9 @@ fn full_sets() {
                 Operation::Scatter(size),
                 Operation::Gather(size),
                 Operation::Step(settings),
+                Operation::Step(settings.with_edge(Edge::slip(2)).with_drag(3)),
                 Operation::Run(Settings::new(Size::new(48, 48), 0, 0), 3),
+                Operation::Run(settings.with_edge(Edge::sticky(3)).with_drag(90), 3),
             ] {
                 agreed("a full set", operation, &before).expect("a call");
             }

@@ -1,9 +1,10 @@
 //! Lists of step and run calls: each gets the records that the one before left, refused ones
-//! included, and demand 3's sums hold of the whole list and of every completed step.
+//! included, and demand 3's sums hold of the whole list and of every completed step, with what drag
+//! and rim change at the nodes.
 
 use compare::calls::agreed;
 use compare::{count, inputs, seed, stream};
-use reference::conservation::Ledger;
+use reference::conservation::{Ledger, NodeChanges};
 use reference::simulation::step_by;
 use reference::{Grid, Particle, Settings, Sums};
 use vectors::{Answer, Operation};
@@ -32,8 +33,9 @@ fn work(steps: usize, settings: Settings, records: &mut [u8], sums: &mut Ledger)
         let step = step_by(Sums::Nearby, settings, records, &mut grid.buffers());
         step.expect("a completed step is not refused");
         let mut alone = Ledger::new(&before);
+        let changes = NodeChanges::of_step(&before, settings);
         for ledger in [&mut *sums, &mut alone] {
-            ledger.count_step(&before, settings);
+            ledger.count_step(&before, settings, changes);
         }
         alone.check(&particles(records)).expect("one step");
     }

@@ -6,7 +6,7 @@ use compare::inputs::{self, Call};
 use compare::{count, stream};
 use engine::library::PROVED;
 use reference::generator::Generator;
-use reference::{Header, Settings, Size, Totals};
+use reference::Totals;
 use vectors::Answer;
 
 /// What the values hold before a call; no result has it.
@@ -24,16 +24,7 @@ fn values(answer: Answer) -> Option<Vec<i128>> {
         }
         Answer::Weights(row) => Some(row.to_vec()),
         Answer::Ran(answer) => Some(vec![answer.completed as i128]),
-        Answer::Header(header) => {
-            let Header {
-                settings,
-                count,
-                steps,
-            } = header;
-            let Settings { size, gx, gy } = settings;
-            let Size { nx, ny } = size;
-            Some(vec![nx, ny, gx, gy, count, steps])
-        }
+        Answer::Header(header) => Some(header.values().to_vec()),
         Answer::Refused(_) => None,
         other => panic!("no values: {other:?}"),
     }

@@ -15,7 +15,7 @@ use reference::{read_file, Header, Settings, Sums};
 const ENOUGH: u64 = 3_000;
 
 /// One more than the bytes of the longest file that is accepted.
-const TOO_LONG: usize = 57_354;
+const TOO_LONG: usize = 57_356;
 
 /// Runs the program on a file that comes through a pipe in two parts.
 fn run(program: &Path, file: &[u8], cut: usize) -> Output {
@@ -51,8 +51,19 @@ fn expected(file: &[u8]) -> String {
 
 /// Whether sizes and gravity differ between the axes, with gravity on both.
 fn is_skew(settings: Settings) -> bool {
-    let Settings { size, gx, gy } = settings;
+    let Settings { size, gx, gy, .. } = settings;
     size.nx != size.ny && gx != gy && gx != 0 && gy != 0
+}
+
+/// What the steps of an accepted file are worked with: the kind of edge, and drag.
+fn forcing(file: &[u8]) -> Option<String> {
+    let Header {
+        settings,
+        count,
+        steps,
+    } = read_file(file).ok()?;
+    let drag = if settings.drag > 0 { "drag" } else { "no drag" };
+    (count > 0 && steps > 0).then(|| format!("kind {} with {drag}", settings.edge.kind))
 }
 
 /// What a file shows, by its text: refused, completed or stopped, and by which number.
@@ -102,13 +113,17 @@ fn writes_what_the_reference_does() {
         let refused = text.starts_with("refused");
         assert_eq!(said, if refused { &text[..] } else { "" }, "{told}");
         seen.insert(kind(&file, &text));
+        seen.extend(forcing(&file));
         if file.len() >= TOO_LONG {
             seen.insert(format!("too long, {}", file.len() > TOO_LONG));
         }
     }
-    let refusals = [1, 2, 3, 4, 5, 6, 7, 8, 9, 10, 16, 17];
+    let refusals = [1, 2, 3, 4, 5, 6, 7, 8, 9, 10, 16, 17, 18];
     let mut listed: BTreeSet<String> = refusals.map(|number| format!("refused {number}")).into();
     listed.extend(["too long, false", "too long, true"].map(str::to_owned));
+    for kind in 0..3 {
+        listed.extend(["drag", "no drag"].map(|drag| format!("kind {kind} with {drag}")));
+    }
     for skew in ["skew", "plain"] {
         for end in [
             "after steps 0",

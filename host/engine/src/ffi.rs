@@ -67,6 +67,9 @@ unsafe extern "C" {
         ny: usize,
         gx: i64,
         gy: i64,
+        kind: usize,
+        width: usize,
+        drag: usize,
         mass: *const u64,
         mass_length: usize,
         px: *mut i64,
@@ -91,6 +94,9 @@ unsafe extern "C" {
         ny: usize,
         gx: i64,
         gy: i64,
+        kind: usize,
+        width: usize,
+        drag: usize,
         records: *mut u8,
         records_length: usize,
         mass: *mut u64,
@@ -106,6 +112,9 @@ unsafe extern "C" {
         ny: usize,
         gx: i64,
         gy: i64,
+        kind: usize,
+        width: usize,
+        drag: usize,
         steps: usize,
         records: *mut u8,
         records_length: usize,
@@ -118,7 +127,7 @@ unsafe extern "C" {
         completed: *mut u64,
     ) -> u64;
 
-    pub fn gondwize_read_file(bytes: *const u8, bytes_length: usize, values: *mut [i64; 6]) -> u64;
+    pub fn gondwize_read_file(bytes: *const u8, bytes_length: usize, values: *mut [i64; 9]) -> u64;
 
     pub fn gondwize_write_header(
         nx: usize,
@@ -127,6 +136,9 @@ unsafe extern "C" {
         gy: i64,
         count: usize,
         steps: usize,
+        kind: usize,
+        width: usize,
+        drag: usize,
         bytes: *mut u8,
         bytes_length: usize,
     ) -> u64;

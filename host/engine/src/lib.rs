@@ -6,14 +6,14 @@
 //! and then has changed nothing, unless its own text says otherwise.
 //!
 //! ```
-//! use engine::{run, write_record, GridBuffers, Particle, Settings, Size};
+//! use engine::{run, write_record, Edge, GridBuffers, Particle, Settings, Size};
 //!
 //! let particle = Particle { identifier: 7, mass: 2, x: 64, y: 64, vx: 3, vy: -2, ..Particle::default() };
 //! let mut records = [0; engine::RECORD_LENGTH];
 //! write_record(&particle, &mut records)?;
 //!
-//! let settings = Settings { size: Size { nx: 4, ny: 4 }, gx: 0, gy: 0 };
-//! let (mut mass, mut x, mut y) = ([0; 16], [0; 16], [0; 16]);
+//! let settings = Settings { size: Size { nx: 4, ny: 5 }, gx: 0, gy: 0, edge: Edge::Open, drag: 0 };
+//! let (mut mass, mut x, mut y) = ([0; 20], [0; 20], [0; 20]);
 //! let mut grid = GridBuffers { mass: &mut mass, x: &mut x, y: &mut y };
 //! let answer = run(settings, 1, &mut records, &mut grid);
 //! assert_eq!((answer.completed, answer.refusal), (1, None));
@@ -50,7 +50,7 @@ pub use refusal::{Limit, Refusal};
 pub const RECORD_LENGTH: usize = 14;
 
 /// Length of a bath file's header in bytes.
-pub const HEADER_LENGTH: usize = 9;
+pub const HEADER_LENGTH: usize = 11;
 
 /// One particle. Numbers are as wide as those of the C functions, so that nothing is cut on the way in:
 /// a number that the record's field does not hold is refused.
@@ -87,15 +87,71 @@ pub struct Size {
     pub ny: usize,
 }
 
-/// The grid's size, and gravity in 256ths of a velocity unit per step, −4096 to 4096.
+/// The edge of the grid: open, or with a band of the outermost columns and rows, 1 to 3 nodes wide.
+#[derive(Clone, Copy, Debug, PartialEq, Eq, Hash)]
+pub enum Edge {
+    /// No band.
+    Open,
+    /// Nodes in a band of this width rest.
+    Sticky(usize),
+    /// Nodes in the columns of a band of this width rest on the x axis, those in its rows on the y
+    /// axis.
+    Slip(usize),
+    /// An edge by its numbers, as a file and C have them: kind 0 is open, with width 0; 1 is sticky
+    /// and 2 slip, with width 1 to 3. Others are refused with 18.
+    Numbered {
+        /// The number of its kind.
+        kind: usize,
+        /// The width of its band.
+        width: usize,
+    },
+}
+
+impl Edge {
+    /// The number of its kind.
+    #[must_use]
+    pub fn kind(self) -> usize {
+        match self {
+            Edge::Open => 0,
+            Edge::Sticky(_) => 1,
+            Edge::Slip(_) => 2,
+            Edge::Numbered { kind, .. } => kind,
+        }
+    }
+
+    /// The width of its band, 0 where it is open.
+    #[must_use]
+    pub fn width(self) -> usize {
+        match self {
+            Edge::Open => 0,
+            Edge::Sticky(width) | Edge::Slip(width) | Edge::Numbered { width, .. } => width,
+        }
+    }
+
+    /// The edge of an accepted file, by its numbers.
+    fn of_file(kind: i64, width: i64) -> Self {
+        match kind {
+            0 => Edge::Open,
+            1 => Edge::Sticky(field(width)),
+            2 => Edge::Slip(field(width)),
+            _ => panic!("no kind of edge: {kind}"),
+        }
+    }
+}
+
+/// What a step is given beside records and grids.
 #[derive(Clone, Copy, Debug, PartialEq, Eq, Hash)]
 pub struct Settings {
     /// Nodes along each axis.
     pub size: Size,
-    /// Gravity on the x axis.
+    /// Gravity on the x axis in 256ths of a velocity unit per step, −4096 to 4096.
     pub gx: i64,
     /// Gravity on the y axis.
     pub gy: i64,
+    /// The edge of the grid.
+    pub edge: Edge,
+    /// What a node's velocity loses at each step, in 256ths of it; at most 255.
+    pub drag: usize,
 }
 
 /// The caller's grid buffers, Nx·Ny long each. Node (i, j) has index j·Nx + i.
@@ -137,6 +193,10 @@ pub struct Header {
     pub count: usize,
     /// Number of steps wanted, at most 10,000.
     pub steps: usize,
+    /// The edge of the grid.
+    pub edge: Edge,
+    /// Drag, at most 255.
+    pub drag: usize,
 }
 
 impl Header {
@@ -147,6 +207,8 @@ impl Header {
             size: self.size,
             gx: self.gx,
             gy: self.gy,
+            edge: self.edge,
+            drag: self.drag,
         }
     }
 }
@@ -155,10 +217,10 @@ impl Header {
 ///
 /// ```compile_fail
 /// # #![deny(unused_must_use)]
-/// # use engine::{run, GridBuffers, Settings, Size};
-/// # let settings = Settings { size: Size { nx: 4, ny: 4 }, gx: 0, gy: 0 };
+/// # use engine::{run, Edge, GridBuffers, Settings, Size};
+/// # let settings = Settings { size: Size { nx: 4, ny: 5 }, gx: 0, gy: 0, edge: Edge::Open, drag: 0 };
 /// # let mut records = [0; 0];
-/// # let (mut mass, mut x, mut y) = ([0; 16], [0; 16], [0; 16]);
+/// # let (mut mass, mut x, mut y) = ([0; 20], [0; 20], [0; 20]);
 /// # let mut grid = GridBuffers { mass: &mut mass, x: &mut x, y: &mut y };
 /// run(settings, 1, &mut records, &mut grid);
 /// ```
@@ -296,11 +358,26 @@ pub fn scatter(size: Size, records: &[u8], grid: &mut GridBuffers) -> Result<(),
     Refusal::check(PROVED.scatter(size, records, grid))
 }
 
-/// Node update: velocities in 256ths, gravity included, take the place of momenta; masses stay.
+/// Node update: velocities in 256ths take the place of momenta; masses stay. Momentum by mass, rounded,
+/// gains gravity; the velocity u then loses u·drag/256, rounded; then nodes in the edge's band rest, on
+/// both axes or on one. Refusal 12 looks at the velocity after gravity and before drag.
+///
+/// ```
+/// use engine::{update, Edge, GridBuffers, Settings, Size};
+///
+/// let settings =
+///     Settings { size: Size { nx: 5, ny: 4 }, gx: 20, gy: -3, edge: Edge::Slip(1), drag: 128 };
+/// let (mut mass, mut x, mut y) = ([1; 20], [400; 20], [0; 20]);
+/// update(settings, &mut GridBuffers { mass: &mut mass, x: &mut x, y: &mut y })?;
+/// // 400 by 4 and gravity are 120 on the x axis, and half of it is lost; a half rounds away from zero.
+/// assert_eq!(x[..10], [0, 60, 60, 60, 0, 0, 60, 60, 60, 0]);
+/// assert_eq!(y[..10], [0, 0, 0, 0, 0, -1, -1, -1, -1, -1]);
+/// # Ok::<(), engine::Refusal>(())
+/// ```
 ///
 /// # Errors
 ///
-/// 2; 1 for the grid buffers; 10; then for each node 11, 12.
+/// 2; 1 for the grid buffers; 10; 18; 19; then for each node 11, 12.
 pub fn update(settings: Settings, grid: &mut GridBuffers) -> Result<(), Refusal> {
     Refusal::check(PROVED.update(settings, grid))
 }
@@ -318,16 +395,17 @@ pub fn gather(size: Size, records: &mut [u8], x: &[i64], y: &[i64]) -> Result<()
 /// One step: [`scatter`], [`update`], [`gather`].
 ///
 /// ```
-/// use engine::{gather, scatter, step, update, write_record, GridBuffers, Particle, Settings, Size};
+/// use engine::{gather, scatter, step, update, write_record};
+/// use engine::{Edge, GridBuffers, Particle, Settings, Size};
 ///
 /// let particle = Particle { identifier: 1, mass: 1, x: 64, y: 64, ..Particle::default() };
 /// let mut records = [0; engine::RECORD_LENGTH];
 /// write_record(&particle, &mut records)?;
 /// let mut same = records;
 ///
-/// let size = Size { nx: 4, ny: 4 };
-/// let settings = Settings { size, gx: 128, gy: 0 };
-/// let (mut mass, mut x, mut y) = ([0; 16], [0; 16], [0; 16]);
+/// let size = Size { nx: 4, ny: 5 };
+/// let settings = Settings { size, gx: 128, gy: 0, edge: Edge::Open, drag: 0 };
+/// let (mut mass, mut x, mut y) = ([0; 20], [0; 20], [0; 20]);
 /// let mut grid = GridBuffers { mass: &mut mass, x: &mut x, y: &mut y };
 /// step(settings, &mut records, &mut grid)?;
 ///
@@ -341,33 +419,39 @@ pub fn gather(size: Size, records: &mut [u8], x: &[i64], y: &[i64]) -> Result<()
 ///
 /// # Errors
 ///
-/// 2; 1, also for the grid buffers; 10; the set. Then for each record 13, 14, 15: the records are as
-/// they were, and the grid holds masses and updated velocities.
+/// 2; 1, also for the grid buffers; 10; 18; 19; the set. Then for each record 13, 14, 15: the records
+/// are as they were, and the grid holds masses and updated velocities.
 pub fn step(settings: Settings, records: &mut [u8], grid: &mut GridBuffers) -> Result<(), Refusal> {
     Refusal::check(PROVED.step(settings, records, grid))
 }
 
 /// The step repeated, as often as wanted or until one is refused.
 ///
-/// The refusal is one of 2; 1, also for the grid buffers; 10; 17; the set, and nothing has changed; or
-/// 13, 14, 15 of the step that stopped the run. Then the records are those of the last completed
-/// step, and the grid holds masses and updated velocities of the last step tried. A run of 0 steps
-/// touches nothing.
+/// The refusal is one of 2; 1, also for the grid buffers; 10; 18; 19; 17; the set, and nothing has
+/// changed; or 13, 14, 15 of the step that stopped the run. Then the records are those of the last
+/// completed step, and the grid holds masses and updated velocities of the last step tried. A run of 0
+/// steps touches nothing.
 ///
 /// ```
-/// use engine::{read_record, run, write_record, GridBuffers, Limit, Particle, Settings, Size};
+/// use engine::{read_record, run, write_record, Edge, GridBuffers, Limit, Particle, Settings, Size};
 ///
-/// let particle = Particle { identifier: 7, mass: 2, x: 150, y: 64, vx: 4, ..Particle::default() };
+/// let particle = Particle { identifier: 7, mass: 2, x: 214, y: 192, vx: 20, ..Particle::default() };
 /// let mut records = [0; engine::RECORD_LENGTH];
 /// write_record(&particle, &mut records)?;
+/// let mut held = records;
 ///
-/// let settings = Settings { size: Size { nx: 4, ny: 4 }, gx: 0, gy: 0 };
-/// let (mut mass, mut x, mut y) = ([0; 16], [0; 16], [0; 16]);
+/// let open = Settings { size: Size { nx: 6, ny: 7 }, gx: 0, gy: 0, edge: Edge::Open, drag: 0 };
+/// let (mut mass, mut x, mut y) = ([0; 42], [0; 42], [0; 42]);
 /// let mut grid = GridBuffers { mass: &mut mass, x: &mut x, y: &mut y };
-/// let answer = run(settings, 1000, &mut records, &mut grid);
+/// let answer = run(open, 1000, &mut records, &mut grid);
 /// let refusal = answer.refusal.expect("the particle leaves the grid");
-/// assert_eq!((answer.completed, refusal.limit), (2, Limit::NewPosition));
-/// assert_eq!(read_record(&records)?.x, 158);
+/// assert_eq!((answer.completed, refusal.limit), (3, Limit::NewPosition));
+/// assert_eq!(read_record(&records)?.x, 274);
+///
+/// let sticky = Settings { edge: Edge::Sticky(2), ..open };
+/// let answer = run(sticky, 1000, &mut held, &mut grid);
+/// assert_eq!((answer.completed, answer.refusal), (1000, None));
+/// assert_eq!(read_record(&held)?.x, 260);
 /// # Ok::<(), engine::Refusal>(())
 /// ```
 pub fn run(
@@ -384,23 +468,28 @@ pub fn run(
     }
 }
 
-/// Reads a bath file: the header's values. The records lie from byte 9 on.
+/// Reads a bath file: the header's values. The records lie from byte 11 on. The edge is one of the first
+/// three of [`Edge`].
 ///
 /// ```
-/// let header = engine::read_file(&[0x20, 0x60, 0x03, 0x3F, 0x00, 0x00, 0x00, 0x01, 0x40])?;
+/// use engine::{read_file, Edge};
+///
+/// let file = [0x20, 0x60, 0x03, 0x3F, 0x00, 0x00, 0x00, 0x01, 0x40, 0x60, 0x90];
+/// let header = read_file(&file)?;
 /// assert_eq!((header.size.nx, header.size.ny), (8, 6));
 /// assert_eq!((header.gx, header.gy), (12, -256));
 /// assert_eq!((header.count, header.steps), (0, 10));
+/// assert_eq!((header.edge, header.drag), (Edge::Sticky(2), 9));
 /// # Ok::<(), engine::Refusal>(())
 /// ```
 ///
 /// # Errors
 ///
-/// 1 shorter than 9; 2; 10; 3; 17; 16; 1 length not 9 + 14·count; then the set.
+/// 1 shorter than 11; 2; 10; 18; 3; 17; 16; 1 length not 11 + 14·count; then the set.
 pub fn read_file(bytes: &[u8]) -> Result<Header, Refusal> {
-    let mut values = [0; 6];
+    let mut values = [0; 9];
     Refusal::check(PROVED.read_file(bytes, &mut values))?;
-    let [nx, ny, gx, gy, count, steps] = values;
+    let [nx, ny, gx, gy, count, steps, kind, width, drag] = values;
     Ok(Header {
         size: Size {
             nx: field(nx),
@@ -410,24 +499,31 @@ pub fn read_file(bytes: &[u8]) -> Result<Header, Refusal> {
         gy,
         count: field(count),
         steps: field(steps),
+        edge: Edge::of_file(kind, width),
+        drag: field(drag),
     })
 }
 
 /// Writes a bath file's header into the buffer, spare bits zero.
 ///
 /// ```
-/// use engine::{read_file, write_header, Header, Size, HEADER_LENGTH};
+/// use engine::{read_file, write_header, Edge, Header, Limit, Size, HEADER_LENGTH};
 ///
-/// let header = Header { size: Size { nx: 8, ny: 6 }, gx: 12, gy: -256, count: 0, steps: 10 };
+/// let size = Size { nx: 8, ny: 6 };
+/// let header = Header { size, gx: 12, gy: -256, count: 0, steps: 10, edge: Edge::Slip(3), drag: 9 };
 /// let mut file = [0; HEADER_LENGTH];
 /// write_header(&header, &mut file)?;
 /// assert_eq!(read_file(&file), Ok(header));
+///
+/// let wide = Header { edge: Edge::Numbered { kind: 0, width: 1 }, ..header };
+/// let refusal = write_header(&wide, &mut file).expect_err("an open edge with a width");
+/// assert_eq!(refusal.limit, Limit::Edge);
 /// # Ok::<(), engine::Refusal>(())
 /// ```
 ///
 /// # Errors
 ///
-/// 1 length not 9; 2; 10; 3; 17.
+/// 1 length not 11; 2; 10; 18; 19; 3; 17.
 pub fn write_header(header: &Header, bytes: &mut [u8]) -> Result<(), Refusal> {
     Refusal::check(PROVED.write_header(header, bytes))
 }

@@ -60,6 +60,9 @@ pub struct Functions {
         usize,
         i64,
         i64,
+        usize,
+        usize,
+        usize,
         Masses,
         usize,
         NumbersOut,
@@ -74,6 +77,9 @@ pub struct Functions {
         usize,
         i64,
         i64,
+        usize,
+        usize,
+        usize,
         BytesOut,
         usize,
         MassesOut,
@@ -89,6 +95,9 @@ pub struct Functions {
         i64,
         i64,
         usize,
+        usize,
+        usize,
+        usize,
         BytesOut,
         usize,
         MassesOut,
@@ -99,9 +108,20 @@ pub struct Functions {
         usize,
         *mut u64,
     ) -> u64,
-    pub read_file: unsafe extern "C" fn(Bytes, usize, *mut [i64; 6]) -> u64,
-    pub write_header:
-        unsafe extern "C" fn(usize, usize, i64, i64, usize, usize, BytesOut, usize) -> u64,
+    pub read_file: unsafe extern "C" fn(Bytes, usize, *mut [i64; 9]) -> u64,
+    pub write_header: unsafe extern "C" fn(
+        usize,
+        usize,
+        i64,
+        i64,
+        usize,
+        usize,
+        usize,
+        usize,
+        usize,
+        BytesOut,
+        usize,
+    ) -> u64,
 }
 
 /// A library whose functions may be called on any slices.
@@ -217,13 +237,22 @@ impl Library {
     /// Update.
     #[must_use]
     pub fn update(&self, settings: Settings, grid: &mut GridBuffers) -> u64 {
-        let Settings { size, gx, gy } = settings;
+        let Settings {
+            size,
+            gx,
+            gy,
+            edge,
+            drag,
+        } = settings;
         unsafe {
             (self.functions.update)(
                 size.nx,
                 size.ny,
                 gx,
                 gy,
+                edge.kind(),
+                edge.width(),
+                drag,
                 grid.mass.as_ptr(),
                 grid.mass.len(),
                 grid.x.as_mut_ptr(),
@@ -254,13 +283,22 @@ impl Library {
     /// Step.
     #[must_use]
     pub fn step(&self, settings: Settings, records: &mut [u8], grid: &mut GridBuffers) -> u64 {
-        let Settings { size, gx, gy } = settings;
+        let Settings {
+            size,
+            gx,
+            gy,
+            edge,
+            drag,
+        } = settings;
         unsafe {
             (self.functions.step)(
                 size.nx,
                 size.ny,
                 gx,
                 gy,
+                edge.kind(),
+                edge.width(),
+                drag,
                 records.as_mut_ptr(),
                 records.len(),
                 grid.mass.as_mut_ptr(),
@@ -283,13 +321,22 @@ impl Library {
         grid: &mut GridBuffers,
         completed: &mut u64,
     ) -> u64 {
-        let Settings { size, gx, gy } = settings;
+        let Settings {
+            size,
+            gx,
+            gy,
+            edge,
+            drag,
+        } = settings;
         unsafe {
             (self.functions.run)(
                 size.nx,
                 size.ny,
                 gx,
                 gy,
+                edge.kind(),
+                edge.width(),
+                drag,
                 steps,
                 records.as_mut_ptr(),
                 records.len(),
@@ -304,9 +351,9 @@ impl Library {
         }
     }
 
-    /// Read a file: six values.
+    /// Read a file: nine values.
     #[must_use]
-    pub fn read_file(&self, bytes: &[u8], values: &mut [i64; 6]) -> u64 {
+    pub fn read_file(&self, bytes: &[u8], values: &mut [i64; 9]) -> u64 {
         unsafe { (self.functions.read_file)(bytes.as_ptr(), bytes.len(), values) }
     }
 
@@ -321,6 +368,9 @@ impl Library {
                 h.gy,
                 h.count,
                 h.steps,
+                h.edge.kind(),
+                h.edge.width(),
+                h.drag,
                 bytes.as_mut_ptr(),
                 bytes.len(),
             )

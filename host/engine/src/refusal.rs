@@ -46,10 +46,12 @@ limits! {
     15 NewPosition "a new position is off the grid",
     16 SpareBits "a file's spare bits are not zero",
     17 Steps "more than 10000 steps",
+    18 Edge "the edge is neither open with width 0 nor sticky or slip with width 1 to 3",
+    19 Drag "drag is above 255",
 }
 
 impl Limit {
-    /// The limit's number, 1 to 17.
+    /// The limit's number, 1 to 19.
     #[must_use]
     pub fn number(self) -> u32 {
         self as u32

@@ -1,6 +1,6 @@
 //! A header as the settings of a run.
 
-use engine::{Header, Settings, Size};
+use engine::{Edge, Header, Settings, Size};
 
 #[test]
 fn settings() {
@@ -11,11 +11,15 @@ fn settings() {
         gy: 4096,
         count: 0,
         steps: 9_999,
+        edge: Edge::Slip(3),
+        drag: 200,
     };
     let expected = Settings {
         size,
         gx: -300,
         gy: 4096,
+        edge: Edge::Slip(3),
+        drag: 200,
     };
     assert_eq!(header.settings(), expected);
 }

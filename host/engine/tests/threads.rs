@@ -5,7 +5,7 @@ use std::thread;
 use engine::{
     check_set, gather, read_file, run, scatter, step, totals, update, write_header, write_record,
 };
-use engine::{GridBuffers, Header, Limit, Particle, Refusal, Settings, Size};
+use engine::{Edge, GridBuffers, Header, Limit, Particle, Refusal, Settings, Size};
 use engine::{HEADER_LENGTH, RECORD_LENGTH};
 
 /// Calls on a thread with so many kB of stack.
@@ -41,7 +41,13 @@ impl Bath {
             write_record(&particle, record).expect("a particle in range");
         }
         Bath {
-            settings: Settings { size, gx: 0, gy: 0 },
+            settings: Settings {
+                size,
+                gx: 0,
+                gy: 0,
+                edge: Edge::Sticky(2),
+                drag: 9,
+            },
             records,
             mass: vec![0; nodes],
             velocity: [vec![0; nodes], vec![0; nodes]],
@@ -99,6 +105,8 @@ impl Bath {
             gy: self.settings.gy,
             count: self.records.len() / RECORD_LENGTH,
             steps: 9,
+            edge: self.settings.edge,
+            drag: self.settings.drag,
         };
         let mut file = vec![0; HEADER_LENGTH];
         write_header(&header, &mut file).expect("a header in range");

@@ -64,15 +64,15 @@ exports! {
     /// Scatter.
     scatter(nx: usize, ny: usize; records records_length: read u8, mass mass_length: write u64, px px_length: write i64, py py_length: write i64);
     /// Update.
-    update(nx: usize, ny: usize, gx: i64, gy: i64; mass mass_length: read u64, px px_length: write i64, py py_length: write i64);
+    update(nx: usize, ny: usize, gx: i64, gy: i64, kind: usize, width: usize, drag: usize; mass mass_length: read u64, px px_length: write i64, py py_length: write i64);
     /// Gather.
     gather(nx: usize, ny: usize; records records_length: write u8, ux ux_length: read i64, uy uy_length: read i64);
     /// Step.
-    step(nx: usize, ny: usize, gx: i64, gy: i64; records records_length: write u8, mass mass_length: write u64, px px_length: write i64, py py_length: write i64);
+    step(nx: usize, ny: usize, gx: i64, gy: i64, kind: usize, width: usize, drag: usize; records records_length: write u8, mass mass_length: write u64, px px_length: write i64, py py_length: write i64);
     /// Run.
-    run(nx: usize, ny: usize, gx: i64, gy: i64, steps: usize; records records_length: write u8, mass mass_length: write u64, px px_length: write i64, py py_length: write i64; completed: u64);
+    run(nx: usize, ny: usize, gx: i64, gy: i64, kind: usize, width: usize, drag: usize, steps: usize; records records_length: write u8, mass mass_length: write u64, px px_length: write i64, py py_length: write i64; completed: u64);
     /// Read a file.
-    read_file(; bytes bytes_length: read u8; values: [i64; 6]);
+    read_file(; bytes bytes_length: read u8; values: [i64; 9]);
     /// Write a header.
-    write_header(nx: usize, ny: usize, gx: i64, gy: i64, count: usize, steps: usize; bytes bytes_length: write u8);
+    write_header(nx: usize, ny: usize, gx: i64, gy: i64, count: usize, steps: usize, kind: usize, width: usize, drag: usize; bytes bytes_length: write u8);
 }

@@ -1,25 +1,21 @@
-//! A bath file: its header of 9 bytes, and its records.
+//! A bath file: its header of 11 bytes, as two words that overlap, and its records.
 
 use crate::particle::RECORD_LENGTH;
-use crate::set::{check_size, walk, MOST};
-use crate::update::check_gravity;
+use crate::set::{check_records, MOST};
+use crate::settings::Settings;
 use crate::{answer, refused};
 
 /// Length of a header in bytes.
-const HEADER_LENGTH: usize = 9;
+const HEADER_LENGTH: usize = 11;
 
 const MOST_STEPS: usize = 10_000;
 
-fn check_values(
-    nx: usize,
-    ny: usize,
-    gx: i64,
-    gy: i64,
-    count: usize,
-    steps: usize,
-) -> Result<(), u64> {
-    check_size(nx, ny)?;
-    check_gravity(gx, gy)?;
+/// The spare bits of the second word, after the steps and at the end.
+const SPARE: u64 = 0x1F_000F;
+
+fn check_values(settings: &Settings, count: usize, steps: usize) -> Result<(), u64> {
+    settings.check_size()?;
+    settings.check_forces()?;
     if count > MOST {
         return Err(refused(3, 0));
     }
@@ -29,29 +25,46 @@ fn check_values(
     Ok(())
 }
 
-fn found(bytes: &[u8]) -> Result<[i64; 6], u64> {
+fn found(bytes: &[u8]) -> Result<[i64; 9], u64> {
     let Some((header, records)) = bytes.split_first_chunk::<HEADER_LENGTH>() else {
         return Err(refused(1, 0));
     };
-    let [a, b, c, d, e, f, g, h, i] = *header;
-    let first = u64::from_be_bytes([a, b, c, d, e, f, g, h]);
-    let [nx, ny] = [first >> 58, first >> 52 & 63].map(|n| n as usize);
-    let [gx, gy] = [first << 12, first << 26].map(|word| word as i64 >> 50);
-    let count = (first >> 11 & 8191) as usize;
-    let steps = (first << 3 & 16_383 | u64::from(i) >> 5) as usize;
-    check_values(nx, ny, gx, gy, count, steps)?;
-    if i & 31 != 0 {
+    let [first, second] = [header.first_chunk(), header.last_chunk()]
+        .map(|word| u64::from_be_bytes(*word.expect("8 bytes of 11")));
+    let settings = Settings {
+        nx: (first >> 58) as usize,
+        ny: (first >> 52 & 63) as usize,
+        gx: (first << 12) as i64 >> 50,
+        gy: (first << 26) as i64 >> 50,
+        kind: (second >> 14 & 3) as usize,
+        width: (second >> 12 & 3) as usize,
+        drag: (second >> 4 & 255) as usize,
+    };
+    let [count, steps] = [second >> 35 & 8191, second >> 21 & 16_383].map(|n| n as usize);
+    check_values(&settings, count, steps)?;
+    if second & SPARE != 0 {
         return Err(refused(16, 0));
     }
     if records.len() != RECORD_LENGTH * count {
         return Err(refused(1, 0));
     }
-    walk(nx, ny, records, |_, _| ())?;
-    Ok([nx as i64, ny as i64, gx, gy, count as i64, steps as i64])
+    let Settings {
+        nx,
+        ny,
+        gx,
+        gy,
+        kind,
+        width,
+        drag,
+    } = settings;
+    check_records(nx, ny, records)?;
+    let [nx, ny, count, steps, kind, width, drag] =
+        [nx, ny, count, steps, kind, width, drag].map(|n| n as i64);
+    Ok([nx, ny, gx, gy, count, steps, kind, width, drag])
 }
 
-/// Read a file: six values.
-pub fn read_file(bytes: &[u8], values: &mut [i64; 6]) -> u64 {
+/// Read a file: nine values.
+pub fn read_file(bytes: &[u8], values: &mut [i64; 9]) -> u64 {
     match found(bytes) {
         Ok(header) => {
             *values = header;
@@ -61,28 +74,23 @@ pub fn read_file(bytes: &[u8], values: &mut [i64; 6]) -> u64 {
     }
 }
 
-#[allow(clippy::too_many_arguments)]
-fn written(
-    nx: usize,
-    ny: usize,
-    gx: i64,
-    gy: i64,
-    count: usize,
-    steps: usize,
-    bytes: &mut [u8],
-) -> Result<(), u64> {
+fn written(settings: &Settings, count: usize, steps: usize, bytes: &mut [u8]) -> Result<(), u64> {
     let Ok(header) = <&mut [u8; HEADER_LENGTH]>::try_from(bytes) else {
         return Err(refused(1, 0));
     };
-    check_values(nx, ny, gx, gy, count, steps)?;
-    let first = (nx as u64) << 58
-        | (ny as u64) << 52
-        | (gx as u64 & 16_383) << 38
-        | (gy as u64 & 16_383) << 24
+    check_values(settings, count, steps)?;
+    let first = (settings.nx as u64) << 58
+        | (settings.ny as u64) << 52
+        | (settings.gx as u64 & 16_383) << 38
+        | (settings.gy as u64 & 16_383) << 24
         | (count as u64) << 11
         | steps as u64 >> 3;
+    let second = (steps as u64) << 21
+        | (settings.kind as u64) << 14
+        | (settings.width as u64) << 12
+        | (settings.drag as u64) << 4;
+    header[3..].copy_from_slice(&second.to_be_bytes());
     header[..8].copy_from_slice(&first.to_be_bytes());
-    header[8] = (steps << 5) as u8;
     Ok(())
 }
 
@@ -95,7 +103,11 @@ pub fn write_header(
     gy: i64,
     count: usize,
     steps: usize,
+    kind: usize,
+    width: usize,
+    drag: usize,
     bytes: &mut [u8],
 ) -> u64 {
-    answer(written(nx, ny, gx, gy, count, steps, bytes))
+    let settings = Settings::new(nx, ny, gx, gy, kind, width, drag);
+    answer(written(&settings, count, steps, bytes))
 }

@@ -1,4 +1,5 @@
-//! Document 01 in Rust, written for speed: what the proved engine is measured against.
+//! Document 01 with document 02's Paper 1 in Rust, written for speed: what the proved engine is
+//! measured against.
 //!
 //! The functions take what those of `include/gondwize.h` take, in the same order, a slice for each
 //! pointer with its length, and answer the same numbers. Records are unpacked once per call, as two
@@ -10,7 +11,9 @@
 pub mod c;
 mod file;
 mod particle;
+mod rounding;
 mod set;
+mod settings;
 mod simulation;
 mod spline;
 mod transfer;

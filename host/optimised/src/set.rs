@@ -8,7 +8,9 @@ use crate::refused;
 /// The largest number of records.
 pub const MOST: usize = 4096;
 
-/// Room for the largest set, not cleared.
+/// Room for the largest set, not cleared. Functions with a large array are not inlined and cannot end
+/// before they use it, so that their frame is made at the entry: elsewhere a compiler got it wrong
+/// (`docs/DECISIONS.md`, "A compiler fault").
 pub type Room = [MaybeUninit<Particle>; MOST];
 
 /// The last place on an axis of n nodes.
@@ -37,7 +39,7 @@ pub fn check_length(bytes: usize) -> Result<(), u64> {
 
 /// Checks every record and hands each to `found`.
 #[inline(always)]
-pub fn walk(
+fn walk(
     nx: usize,
     ny: usize,
     records: &[u8],
@@ -63,6 +65,12 @@ pub fn walk(
         found(k, p);
     }
     Ok(())
+}
+
+/// Checks every record. Apart from its callers, so that the loop has all registers.
+#[inline(never)]
+pub fn check_records(nx: usize, ny: usize, records: &[u8]) -> Result<(), u64> {
+    walk(nx, ny, records, |_, _| ())
 }
 
 /// Checks every record and unpacks it.
@@ -92,7 +100,7 @@ pub fn pack(particles: &[Particle], records: &mut [u8]) {
 fn checked(nx: usize, ny: usize, records: &[u8]) -> Result<usize, u64> {
     check_size(nx, ny)?;
     check_length(records.len())?;
-    walk(nx, ny, records, |_, _| ())?;
+    check_records(nx, ny, records)?;
     Ok(records.len() / RECORD_LENGTH)
 }
 

@@ -3,36 +3,23 @@
 use std::mem::MaybeUninit;
 
 use crate::refused;
-use crate::set::{check_length, check_size, pack, unpack, Room, MOST};
+use crate::set::{check_length, pack, unpack, Room, MOST};
+use crate::settings::Settings;
 use crate::spline::TABLE;
 use crate::transfer::{gather_all, scatter_all};
-use crate::update::{check_gravity, check_lengths, update_all};
+use crate::update::{check_lengths, update_all};
 
-/// The completed steps, and the refusal if one stopped the run.
-#[allow(clippy::too_many_arguments)]
-fn ran(
-    nx: usize,
-    ny: usize,
-    gx: i64,
-    gy: i64,
+/// The completed steps, and the refusal if one stopped the run, of a set of checked length.
+#[inline(never)]
+fn run_set(
+    settings: &Settings,
     steps: usize,
     records: &mut [u8],
     mass: &mut [u64],
     px: &mut [i64],
     py: &mut [i64],
 ) -> Result<usize, (usize, u64)> {
-    let entry = || {
-        check_size(nx, ny)?;
-        check_length(records.len())?;
-        check_lengths(nx * ny, [mass.len(), px.len(), py.len()])?;
-        check_gravity(gx, gy)?;
-        if steps > 10_000 {
-            Err(refused(17, 0))
-        } else {
-            Ok(())
-        }
-    };
-    entry().map_err(|refusal| (0, refusal))?;
+    let &Settings { nx, ny, .. } = settings;
     let mut rooms: [Room; 2] = [[MaybeUninit::uninit(); MOST]; 2];
     let [from, to] = &mut rooms;
     let count = unpack(nx, ny, records, from)
@@ -46,7 +33,7 @@ fn ran(
         // SAFETY: unpacking or the step before has written these.
         let particles = unsafe { from.assume_init_ref() };
         scatter_all(particles, nx, table, mass, px, py);
-        update_all(gx, gy, mass, px, py);
+        update_all(settings, mass, px, py);
         if let Err(refusal) = gather_all(particles, nx, ny, table, px, py, to) {
             stopped = Some(refusal);
             break;
@@ -61,6 +48,30 @@ fn ran(
     stopped.map_or(Ok(completed), |refusal| Err((completed, refusal)))
 }
 
+/// The completed steps, and the refusal if one stopped the run.
+fn ran(
+    settings: &Settings,
+    steps: usize,
+    records: &mut [u8],
+    mass: &mut [u64],
+    px: &mut [i64],
+    py: &mut [i64],
+) -> Result<usize, (usize, u64)> {
+    let entry = || {
+        settings.check_size()?;
+        check_length(records.len())?;
+        check_lengths(settings.nodes(), [mass.len(), px.len(), py.len()])?;
+        settings.check_forces()?;
+        if steps > 10_000 {
+            Err(refused(17, 0))
+        } else {
+            Ok(())
+        }
+    };
+    entry().map_err(|refusal| (0, refusal))?;
+    run_set(settings, steps, records, mass, px, py)
+}
+
 /// Step.
 #[allow(clippy::too_many_arguments)]
 pub fn step(
@@ -68,12 +79,16 @@ pub fn step(
     ny: usize,
     gx: i64,
     gy: i64,
+    kind: usize,
+    width: usize,
+    drag: usize,
     records: &mut [u8],
     mass: &mut [u64],
     px: &mut [i64],
     py: &mut [i64],
 ) -> u64 {
-    match ran(nx, ny, gx, gy, 1, records, mass, px, py) {
+    let settings = Settings::new(nx, ny, gx, gy, kind, width, drag);
+    match ran(&settings, 1, records, mass, px, py) {
         Ok(_) => 0,
         Err((_, refusal)) => refusal,
     }
@@ -86,6 +101,9 @@ pub fn run(
     ny: usize,
     gx: i64,
     gy: i64,
+    kind: usize,
+    width: usize,
+    drag: usize,
     steps: usize,
     records: &mut [u8],
     mass: &mut [u64],
@@ -93,7 +111,8 @@ pub fn run(
     py: &mut [i64],
     completed: &mut u64,
 ) -> u64 {
-    let (count, answer) = match ran(nx, ny, gx, gy, steps, records, mass, px, py) {
+    let settings = Settings::new(nx, ny, gx, gy, kind, width, drag);
+    let (count, answer) = match ran(&settings, steps, records, mass, px, py) {
         Ok(count) => (count, 0),
         Err(stopped) => stopped,
     };

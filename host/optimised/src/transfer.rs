@@ -3,6 +3,7 @@
 use std::mem::MaybeUninit;
 
 use crate::particle::Particle;
+use crate::rounding::rounded;
 use crate::set::{check_length, check_size, last, pack, unpack, Room, MOST};
 use crate::spline::{Place, Table, TABLE};
 use crate::update::{check_lengths, is_slow};
@@ -52,12 +53,6 @@ pub fn scatter_all(
     }
 }
 
-/// A gathered sum divided by 2^34, to nearest, halves away from zero.
-#[inline(always)]
-fn rounded(sum: i64) -> i64 {
-    (sum + (1 << 33) + (sum >> 63)) >> 34
-}
-
 /// Velocity and B on one axis, from the nine nodes of which the first is at `at`.
 #[inline(always)]
 fn gather_axis(u: &[i64], nx: usize, at: usize, x: Place, y: Place) -> [i64; 3] {
@@ -79,9 +74,9 @@ fn gather_axis(u: &[i64], nx: usize, at: usize, x: Place, y: Place) -> [i64; 3] 
     let across = y.weights[0] * low.1 + y.weights[1] * middle.1 + y.weights[2] * high.1;
     let up = upper - lower;
     [
-        rounded(sum),
-        rounded(64 * across - x.q * sum),
-        rounded(64 * up - y.q * sum),
+        rounded::<34>(sum),
+        rounded::<34>(64 * across - x.q * sum),
+        rounded::<34>(64 * up - y.q * sum),
     ]
 }
 
@@ -128,6 +123,22 @@ pub fn gather_all(
     Ok(())
 }
 
+/// Scatters a set of checked length onto grids of checked lengths.
+#[inline(never)]
+fn scatter_set(
+    nx: usize,
+    ny: usize,
+    records: &[u8],
+    mass: &mut [u64],
+    px: &mut [i64],
+    py: &mut [i64],
+) -> Result<(), u64> {
+    let mut room: Room = [MaybeUninit::uninit(); MOST];
+    let particles = unpack(nx, ny, records, &mut room)?;
+    scatter_all(particles, nx, &TABLE, mass, px, py);
+    Ok(())
+}
+
 fn scattered(
     nx: usize,
     ny: usize,
@@ -139,10 +150,7 @@ fn scattered(
     check_size(nx, ny)?;
     check_length(records.len())?;
     check_lengths(nx * ny, [mass.len(), px.len(), py.len()])?;
-    let mut room: Room = [MaybeUninit::uninit(); MOST];
-    let particles = unpack(nx, ny, records, &mut room)?;
-    scatter_all(particles, nx, &TABLE, mass, px, py);
-    Ok(())
+    scatter_set(nx, ny, records, mass, px, py)
 }
 
 /// Scatter.
@@ -157,10 +165,9 @@ pub fn scatter(
     answer(scattered(nx, ny, records, mass, px, py))
 }
 
-fn gathered(nx: usize, ny: usize, records: &mut [u8], ux: &[i64], uy: &[i64]) -> Result<(), u64> {
-    check_size(nx, ny)?;
-    check_length(records.len())?;
-    check_lengths(nx * ny, [ux.len(), ux.len(), uy.len()])?;
+/// Gathers for a set of checked length from grids of checked lengths.
+#[inline(never)]
+fn gather_set(nx: usize, ny: usize, records: &mut [u8], ux: &[i64], uy: &[i64]) -> Result<(), u64> {
     let mut room: Room = [MaybeUninit::uninit(); MOST];
     let particles = unpack(nx, ny, records, &mut room)?;
     for (k, (&x, &y)) in ux.iter().zip(uy).enumerate() {
@@ -173,6 +180,13 @@ fn gathered(nx: usize, ny: usize, records: &mut [u8], ux: &[i64], uy: &[i64]) ->
     // SAFETY: the gather has written as many.
     pack(unsafe { to[..particles.len()].assume_init_ref() }, records);
     Ok(())
+}
+
+fn gathered(nx: usize, ny: usize, records: &mut [u8], ux: &[i64], uy: &[i64]) -> Result<(), u64> {
+    check_size(nx, ny)?;
+    check_length(records.len())?;
+    check_lengths(nx * ny, [ux.len(), ux.len(), uy.len()])?;
+    gather_set(nx, ny, records, ux, uy)
 }
 
 /// Gather.

@@ -1,8 +1,10 @@
 //! The update of a grid's nodes.
 
+use std::hint::assert_unchecked;
 use std::mem::MaybeUninit;
 
-use crate::set::check_size;
+use crate::rounding::rounded;
+use crate::settings::{Settings, OPEN, STICKY};
 use crate::{answer, refused};
 
 /// momentum/(4·mass) to nearest, halves away from zero, plus gravity; 0 without mass. For a mass of
@@ -21,29 +23,76 @@ fn velocity(gravity: i64, mass: u64, momentum: i64) -> i64 {
     rounded + gravity
 }
 
-/// The update of nodes that keep to every limit, their momenta and velocities within 54 bits.
-pub fn update_all(gx: i64, gy: i64, mass: &[u64], px: &mut [i64], py: &mut [i64]) {
-    for ((&mass, px), py) in mass.iter().zip(px).zip(py) {
-        *px = velocity(gx, mass, *px);
-        *py = velocity(gy, mass, *py);
+/// What drag leaves of a velocity within ±131,072.
+#[inline(always)]
+fn slowed(drag: usize, u: i64) -> i64 {
+    u - rounded::<8>(u * drag as i64)
+}
+
+/// Stills the nodes of the first and the last columns.
+fn still_columns(width: usize, nx: usize, u: &mut [i64]) {
+    for row in u.chunks_exact_mut(nx) {
+        for k in 0..width {
+            row[k] = 0;
+            row[nx - 1 - k] = 0;
+        }
     }
+}
+
+/// Stills the nodes of the first and the last rows.
+fn still_rows(width: usize, nx: usize, u: &mut [i64]) {
+    let (nodes, band) = (u.len(), width * nx);
+    u[..band].fill(0);
+    u[nodes - band..].fill(0);
+}
+
+/// Stills the nodes of the edge's band.
+#[inline(always)]
+fn still_band(settings: &Settings, ux: &mut [i64], uy: &mut [i64]) {
+    let &Settings {
+        nx, kind, width, ..
+    } = settings;
+    if kind == OPEN {
+        return;
+    }
+    still_columns(width, nx, ux);
+    still_rows(width, nx, uy);
+    if kind == STICKY {
+        still_columns(width, nx, uy);
+        still_rows(width, nx, ux);
+    }
+}
+
+/// Puts velocities in the place of momenta, each as `left` leaves it.
+#[inline(always)]
+fn update_nodes(
+    settings: &Settings,
+    mass: &[u64],
+    px: &mut [i64],
+    py: &mut [i64],
+    left: impl Fn(i64) -> i64,
+) {
+    for ((&mass, px), py) in mass.iter().zip(px).zip(py) {
+        *px = left(velocity(settings.gx, mass, *px));
+        *py = left(velocity(settings.gy, mass, *py));
+    }
+}
+
+/// The update of nodes that keep to every limit, their momenta and velocities within 54 bits.
+pub fn update_all(settings: &Settings, mass: &[u64], px: &mut [i64], py: &mut [i64]) {
+    match settings.drag {
+        0 => update_nodes(settings, mass, px, py, |u| u),
+        drag => update_nodes(settings, mass, px, py, |u| slowed(drag, u)),
+    }
+    still_band(settings, px, py);
 }
 
 /// Whether the buffers are as long as there are nodes.
 pub fn check_lengths(nodes: usize, lengths: [usize; 3]) -> Result<(), u64> {
-    if lengths == [nodes; 3] {
+    if lengths.into_iter().all(|length| length == nodes) {
         Ok(())
     } else {
         Err(refused(1, 0))
-    }
-}
-
-/// Whether gravity is −4096 to 4096.
-pub fn check_gravity(gx: i64, gy: i64) -> Result<(), u64> {
-    if gx.unsigned_abs() <= 4096 && gy.unsigned_abs() <= 4096 {
-        Ok(())
-    } else {
-        Err(refused(10, 0))
     }
 }
 
@@ -53,20 +102,21 @@ pub fn is_slow(velocity: i64) -> bool {
     velocity.unsigned_abs() <= 131_072
 }
 
-fn updated(
-    nx: usize,
-    ny: usize,
+/// Checks every node, then puts velocities in the place of momenta, each as `left` leaves it. The
+/// buffers are as long as a grid has nodes.
+#[inline(never)]
+fn update_checked(
     gx: i64,
     gy: i64,
     mass: &[u64],
     px: &mut [i64],
     py: &mut [i64],
+    left: impl Fn(i64) -> i64,
 ) -> Result<(), u64> {
-    check_size(nx, ny)?;
-    check_lengths(nx * ny, [mass.len(), px.len(), py.len()])?;
-    check_gravity(gx, gy)?;
     let mut found = [[MaybeUninit::uninit(); 2]; 48 * 48];
-    for (k, found) in found[..nx * ny].iter_mut().enumerate() {
+    // SAFETY: a grid has as many nodes.
+    unsafe { assert_unchecked((16..=found.len()).contains(&mass.len())) };
+    for (k, found) in found[..mass.len()].iter_mut().enumerate() {
         // SAFETY: each buffer is as long.
         let (mass, px, py) = unsafe {
             (
@@ -75,14 +125,18 @@ fn updated(
                 *py.get_unchecked(k),
             )
         };
-        if mass > 1 << 43 || mass == 0 && (px != 0 || py != 0) {
+        if mass == 0 && px == 0 && py == 0 {
+            *found = [MaybeUninit::new(0); 2];
+            continue;
+        }
+        if mass == 0 || mass > 1 << 43 {
             return Err(refused(11, k));
         }
         let (x, y) = (velocity(gx, mass, px), velocity(gy, mass, py));
         if !is_slow(x) || !is_slow(y) {
             return Err(refused(12, k));
         }
-        *found = [MaybeUninit::new(x), MaybeUninit::new(y)];
+        *found = [MaybeUninit::new(left(x)), MaybeUninit::new(left(y))];
     }
     for ((found, px), py) in found.iter().zip(px).zip(py) {
         // SAFETY: the loop above has written as many.
@@ -91,15 +145,35 @@ fn updated(
     Ok(())
 }
 
+#[inline(always)]
+fn updated(settings: &Settings, mass: &[u64], px: &mut [i64], py: &mut [i64]) -> Result<(), u64> {
+    settings.check_size()?;
+    check_lengths(settings.nodes(), [mass.len(), px.len(), py.len()])?;
+    settings.check_forces()?;
+    let &Settings { gx, gy, .. } = settings;
+    match settings.drag {
+        0 => update_checked(gx, gy, mass, px, py, |u| u)?,
+        drag => update_checked(gx, gy, mass, px, py, |u| slowed(drag, u))?,
+    }
+    still_band(settings, px, py);
+    Ok(())
+}
+
 /// Update.
+#[allow(clippy::too_many_arguments)]
+#[inline(always)]
 pub fn update(
     nx: usize,
     ny: usize,
     gx: i64,
     gy: i64,
+    kind: usize,
+    width: usize,
+    drag: usize,
     mass: &[u64],
     px: &mut [i64],
     py: &mut [i64],
 ) -> u64 {
-    answer(updated(nx, ny, gx, gy, mass, px, py))
+    let settings = Settings::new(nx, ny, gx, gy, kind, width, drag);
+    answer(updated(&settings, mass, px, py))
 }

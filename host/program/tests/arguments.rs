@@ -6,7 +6,7 @@ use std::process::Command;
 
 use program::{ended, root, words, Ended, Room};
 use reference::particle_set::pack_records;
-use reference::{Header, Particle, Settings, Size};
+use reference::{Edge, Header, Particle, Settings, Size};
 
 /// `run` with these arguments, in the repository.
 fn run(arguments: &[&str]) -> Ended {
@@ -132,6 +132,10 @@ fn refused_files() -> Vec<(u32, usize, Vec<u8>)> {
     let whole = file(settings, 1, 0, &good);
     let size = Settings::new(Size::new(3, 6), 0, 0);
     let gravity = Settings::new(Size::new(8, 6), 0, 4_097);
+    let edge = |kind, width| {
+        let settings = settings.with_edge(Edge::new(kind, width));
+        file(settings.with_drag(9), 1, 0, &good)
+    };
     let many = Header {
         settings,
         count: 4_097,
@@ -142,7 +146,8 @@ fn refused_files() -> Vec<(u32, usize, Vec<u8>)> {
         .collect();
     vec![
         (1, 0, Vec::new()),
-        (1, 0, whole[..8].to_vec()),
+        (1, 0, whole[..10].to_vec()),
+        (1, 0, whole[..11].to_vec()),
         (1, 0, [&whole[..], &[0]].concat()),
         (2, 0, file(size, 1, 0, &good)),
         (3, 0, many.pack(0).to_vec()),
@@ -153,8 +158,13 @@ fn refused_files() -> Vec<(u32, usize, Vec<u8>)> {
         (8, 3, with(3, |p| p.identifier = 12)),
         (9, 128, file(settings, 1, 0, &heavy)),
         (10, 0, file(gravity, 1, 0, &good)),
-        (16, 0, file(settings, 1, 9, &good)),
+        (16, 0, file(settings, 1, 1, &good)),
+        (16, 0, file(settings, 1, 256, &good)),
         (17, 0, file(settings, 10_001, 0, &good)),
+        (18, 0, edge(0, 1)),
+        (18, 0, edge(1, 0)),
+        (18, 0, edge(2, 0)),
+        (18, 0, edge(3, 2)),
     ]
 }
 
@@ -172,7 +182,7 @@ fn every_refused_file_has_its_sentence() {
     let room = Room::new("refused");
     for (number, place, contents) in refused_files() {
         let path = room.write("file.bath", contents);
-        let at_record = !matches!(number, 1 | 2 | 3 | 10 | 16 | 17);
+        let at_record = !matches!(number, 1 | 2 | 3 | 10 | 16 | 17 | 18);
         let of = if at_record {
             format!(" (record {place})")
         } else {
@@ -187,7 +197,7 @@ fn every_refused_file_has_its_sentence() {
 
 #[test]
 fn every_refusal_has_words() {
-    let all: Vec<String> = (1..=17).map(words).collect();
+    let all: Vec<String> = (1..=19).map(words).collect();
     assert!(all.iter().all(|text| text.len() > 8));
     assert_eq!(all[7], "an identifier is not above the one before");
 }

@@ -1,13 +1,14 @@
-//! Bath files: a 9-byte header, then the records.
+//! Bath files: an 11-byte header, then the records.
 
 use crate::bits::{pack, unpack, Field};
+use crate::edge::Edge;
 use crate::grid::{Settings, Size};
 use crate::limits::{HEADER_LENGTH, MAX_RECORDS, MAX_STEPS, RECORD_LENGTH};
 use crate::particle_set::walk;
 use crate::refusal::{require, Refusal, COUNT, LENGTH, SPARE, STEPS};
 
 /// The fields of the header in their order.
-pub const LAYOUT: [Field; 7] = [
+pub const LAYOUT: [Field; 11] = [
     Field::unsigned("Nx", 6),
     Field::unsigned("Ny", 6),
     Field::signed("gx", 14),
@@ -15,12 +16,19 @@ pub const LAYOUT: [Field; 7] = [
     Field::unsigned("count", 13),
     Field::unsigned("steps", 14),
     Field::unsigned("spare", 5),
+    Field::unsigned("kind", 2),
+    Field::unsigned("width", 2),
+    Field::unsigned("drag", 8),
+    Field::unsigned("last spare", LAST_SPARE),
 ];
+
+/// Bits of the last spare field.
+const LAST_SPARE: u32 = 4;
 
 /// The header's values.
 #[derive(Clone, Copy, Debug, PartialEq, Eq, Hash)]
 pub struct Header {
-    /// Grid size and gravity.
+    /// Grid size, gravity, edge and drag.
     pub settings: Settings,
     /// Number of records.
     pub count: i128,
@@ -29,44 +37,67 @@ pub struct Header {
 }
 
 impl Header {
-    /// Refuses 2, 10, 3, 17 in this order.
+    /// The header with these values, in the order of their fields.
+    pub fn of([nx, ny, gx, gy, count, steps, kind, width, drag]: [i128; 9]) -> Self {
+        let settings = Settings::new(Size::new(nx, ny), gx, gy);
+        Header {
+            settings: settings.with_edge(Edge::new(kind, width)).with_drag(drag),
+            count,
+            steps,
+        }
+    }
+
+    /// The values in the order of their fields.
+    pub fn values(&self) -> [i128; 9] {
+        let Settings {
+            size: Size { nx, ny },
+            gx,
+            gy,
+            edge: Edge { kind, width },
+            drag,
+        } = self.settings;
+        [nx, ny, gx, gy, self.count, self.steps, kind, width, drag]
+    }
+
+    /// Refuses 2, 10, 18, 19, 3, 17 in this order.
     fn check(&self) -> Result<(), Refusal> {
         self.settings.size.check()?;
-        self.settings.check_gravity()?;
+        self.settings.check_forcing()?;
         require((0..=MAX_RECORDS).contains(&self.count), COUNT, 0)?;
         require((0..=MAX_STEPS).contains(&self.steps), STEPS, 0)
     }
 
-    /// The low bits of each field as 9 bytes, in range or not, with these spare bits.
+    /// The low bits of each field as 11 bytes, in range or not, with these nine spare bits: five
+    /// behind the steps and four at the end.
     pub fn pack(&self, spare: i128) -> [u8; HEADER_LENGTH] {
-        let Settings { size, gx, gy } = self.settings;
-        let fields = [size.nx, size.ny, gx, gy, self.count, self.steps, spare];
+        let [nx, ny, gx, gy, count, steps, kind, width, drag] = self.values();
+        let first = spare >> LAST_SPARE;
+        let fields = [
+            nx, ny, gx, gy, count, steps, first, kind, width, drag, spare,
+        ];
         let mut bytes = [0; HEADER_LENGTH];
         pack(&LAYOUT, &fields, &mut bytes);
         bytes
     }
 }
 
-/// Reads a file: the header's values. Refused: 1 shorter than 9; 2; 10; 3; 17; 16; 1 length not
-/// 9 + 14·count; then the set.
+/// Reads a file: the header's values. Refused: 1 shorter than 11; 2; 10; 18; 3; 17; 16 for either
+/// spare field; 1 length not 11 + 14·count; then the set.
 pub fn read_file(file: &[u8]) -> Result<Header, Refusal> {
     require(file.len() >= HEADER_LENGTH, LENGTH, 0)?;
-    let [nx, ny, gx, gy, count, steps, spare] = unpack(&LAYOUT, &file[..HEADER_LENGTH]);
-    let header = Header {
-        settings: Settings::new(Size::new(nx, ny), gx, gy),
-        count,
-        steps,
-    };
+    let [nx, ny, gx, gy, count, steps, first, kind, width, drag, last] =
+        unpack(&LAYOUT, &file[..HEADER_LENGTH]);
+    let header = Header::of([nx, ny, gx, gy, count, steps, kind, width, drag]);
     header.check()?;
-    require(spare == 0, SPARE, 0)?;
+    require([first, last] == [0, 0], SPARE, 0)?;
     let length = HEADER_LENGTH + RECORD_LENGTH * count as usize;
     require(file.len() == length, LENGTH, 0)?;
     walk(header.settings.size, file, HEADER_LENGTH)?;
     Ok(header)
 }
 
-/// Writes a header into the buffer, spare bits zero. Refused: 1 length not 9; 2; 10; 3; 17, and
-/// the buffer is as it was.
+/// Writes a header into the buffer, spare bits zero. Refused: 1 length not 11; 2; 10; 18; 19; 3; 17,
+/// and the buffer is as it was.
 pub fn write_header(header: &Header, buffer: &mut [u8]) -> Result<(), Refusal> {
     require(buffer.len() == HEADER_LENGTH, LENGTH, 0)?;
     header.check()?;

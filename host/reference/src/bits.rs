@@ -3,7 +3,7 @@
 /// A field: its name, its width in bits, and whether it is signed in two's complement.
 #[derive(Clone, Copy, Debug, PartialEq, Eq)]
 pub struct Field {
-    /// The name in document 01.
+    /// The name in the documents.
     pub name: &'static str,
     /// Width in bits.
     pub bits: u32,

@@ -1,5 +1,6 @@
 //! Seeded numbers (SplitMix64) and particles, the same on every machine.
 
+use crate::edge::Edge;
 use crate::grid::Size;
 use crate::limits::{MAX_B, MAX_MASS, MAX_TOTAL_MASS, MAX_VELOCITY, MIN_PLACE, SPACING};
 use crate::particle::Particle;
@@ -43,6 +44,11 @@ impl Generator {
     /// A size that is accepted.
     pub fn size(&mut self) -> Size {
         Size::new(self.between(4, 48), self.between(4, 48))
+    }
+
+    /// An edge that is accepted.
+    pub fn edge(&mut self) -> Edge {
+        Edge::ALL[self.between(0, Edge::ALL.len() as i128 - 1) as usize]
     }
 
     /// At most this many particles of an accepted set, velocities and B up to the given sizes.

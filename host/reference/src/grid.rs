@@ -1,7 +1,8 @@
 //! The grid: its size, its settings and its buffers.
 
-use crate::limits::{MAX_GRAVITY, MAX_NODES, MIN_NODES, MIN_PLACE, SPACING};
-use crate::refusal::{require, within, Refusal, GRAVITY, LENGTH, SIZE};
+use crate::edge::Edge;
+use crate::limits::{MAX_DRAG, MAX_GRAVITY, MAX_NODES, MIN_NODES, MIN_PLACE, SPACING};
+use crate::refusal::{require, within, Refusal, DRAG, GRAVITY, LENGTH, SIZE};
 
 /// Number of nodes along each axis.
 #[derive(Clone, Copy, Debug, PartialEq, Eq, Hash)]
@@ -34,6 +35,11 @@ impl Size {
         (j * self.nx + i) as usize
     }
 
+    /// The column and the row of the node with this index.
+    pub fn column_and_row(&self, node: usize) -> (i128, i128) {
+        (node as i128 % self.nx, node as i128 / self.nx)
+    }
+
     /// Whether a particle at (x, y) is on the grid.
     pub fn holds(&self, x: i128, y: i128) -> bool {
         let on_axis = |coordinate: i128, nodes: i128| {
@@ -43,7 +49,7 @@ impl Size {
     }
 }
 
-/// What a step is given beside records and buffers: the size and gravity.
+/// What a step is given beside records and buffers: the size, gravity, the edge and drag.
 #[derive(Clone, Copy, Debug, PartialEq, Eq, Hash)]
 pub struct Settings {
     /// Nodes along each axis.
@@ -52,18 +58,40 @@ pub struct Settings {
     pub gx: i128,
     /// Gravity on the y axis.
     pub gy: i128,
+    /// The kind of edge and the width of its band.
+    pub edge: Edge,
+    /// Drag, in 256ths of a node's velocity, 0 to 255.
+    pub drag: i128,
 }
 
 impl Settings {
-    /// Settings with gravity (gx, gy).
+    /// Settings with gravity (gx, gy), open edges and no drag.
     pub fn new(size: Size, gx: i128, gy: i128) -> Self {
-        Settings { size, gx, gy }
+        Settings {
+            size,
+            gx,
+            gy,
+            edge: Edge::OPEN,
+            drag: 0,
+        }
     }
 
-    /// Refuses 10.
-    pub fn check_gravity(&self) -> Result<(), Refusal> {
+    /// The same settings with this edge.
+    pub fn with_edge(self, edge: Edge) -> Self {
+        Settings { edge, ..self }
+    }
+
+    /// The same settings with this drag.
+    pub fn with_drag(self, drag: i128) -> Self {
+        Settings { drag, ..self }
+    }
+
+    /// Refuses 10, 18 and 19 in this order: what changes the velocities of nodes.
+    pub(crate) fn check_forcing(&self) -> Result<(), Refusal> {
         let accepted = within(self.gx, MAX_GRAVITY) && within(self.gy, MAX_GRAVITY);
-        require(accepted, GRAVITY, 0)
+        require(accepted, GRAVITY, 0)?;
+        self.edge.check()?;
+        require((0..=MAX_DRAG).contains(&self.drag), DRAG, 0)
     }
 }
 

@@ -1,5 +1,6 @@
-//! Two-dimensional APIC with the quadratic B-spline in whole numbers: the whole of document 01,
-//! written from the document, as literal sums over all particles and all nodes.
+//! Two-dimensional APIC with the quadratic B-spline in whole numbers: the whole of document 01 with
+//! document 02's Paper 1, written from the documents, as literal sums over all particles and all
+//! nodes.
 //!
 //! | module | operations |
 //! | --- | --- |
@@ -7,6 +8,7 @@
 //! | [`particle`] | read a record, write a record |
 //! | [`particle_set`] | check a set, totals |
 //! | [`transfer`] | scatter, update, gather |
+//! | [`edge`] | the rim that an update gives to the nodes of the band |
 //! | [`simulation`] | step, run |
 //! | [`bath_file`] | read a file, write a header |
 //! | [`report`] | the program's text |
@@ -14,7 +16,7 @@
 //! | [`generator`] | seeded numbers for samples and tests |
 //!
 //! Numbers a caller may choose freely are `i128`, so that every value of every narrower type can be
-//! asked about. A refused call leaves every buffer as it was, unless document 01 says otherwise.
+//! asked about. A refused call leaves every buffer as it was, unless the documents say otherwise.
 
 #![forbid(unsafe_code)]
 #![warn(missing_docs)]
@@ -22,6 +24,7 @@
 pub mod bath_file;
 pub mod bits;
 pub mod conservation;
+pub mod edge;
 pub mod generator;
 pub mod grid;
 pub mod limits;
@@ -35,6 +38,7 @@ pub mod spline;
 pub mod transfer;
 
 pub use bath_file::{read_file, write_header, Header};
+pub use edge::Edge;
 pub use grid::{Grid, GridBuffers, Settings, Size};
 pub use particle::{read_record, write_record, Particle};
 pub use particle_set::{check_set, totals, Totals};

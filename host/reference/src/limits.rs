@@ -1,4 +1,4 @@
-//! The limits and fixed numbers of document 01, each named once.
+//! The limits and fixed numbers of documents 01 and 02, each named once.
 
 /// Position units between two neighbouring nodes.
 pub const SPACING: i128 = 64;
@@ -16,7 +16,7 @@ pub const MAX_OFFSET: i128 = 31;
 /// Bytes of a particle record.
 pub const RECORD_LENGTH: usize = 14;
 /// Bytes of a bath file's header.
-pub const HEADER_LENGTH: usize = 9;
+pub const HEADER_LENGTH: usize = 11;
 /// Most records of a set.
 pub const MAX_RECORDS: i128 = 4096;
 /// Most bytes of a set.
@@ -37,6 +37,14 @@ pub const MAX_TOTAL_MASS: i128 = 131_072;
 
 /// Greatest size of gravity on one axis, in 256ths.
 pub const MAX_GRAVITY: i128 = 4096;
+/// Least width of the band of a sticky or slip edge, in nodes.
+pub const MIN_WIDTH: i128 = 1;
+/// Greatest width of the band.
+pub const MAX_WIDTH: i128 = 3;
+/// Greatest drag, in 256ths of a node's velocity.
+pub const MAX_DRAG: i128 = 255;
+/// Drag is in 256ths of a node's velocity.
+pub const DRAG_UNIT: i128 = 256;
 /// Most steps of one run.
 pub const MAX_STEPS: i128 = 10_000;
 /// Greatest node mass that update takes.

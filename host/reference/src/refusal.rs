@@ -30,16 +30,20 @@ pub const NEW_VELOCITY: u32 = 13;
 pub const NEW_AFFINE: u32 = 14;
 /// A new place off the grid.
 pub const NEW_PLACE: u32 = 15;
-/// The header's spare bits not zero.
+/// Spare bits of the header not zero.
 pub const SPARE: u32 = 16;
 /// More than 10,000 steps.
 pub const STEPS: u32 = 17;
+/// A kind of edge that there is not, or a width that its kind does not have.
+pub const EDGE: u32 = 18;
+/// Drag above 255.
+pub const DRAG: u32 = 19;
 
-/// What was refused: document 01's number, and the record or node counted from 0, or 0 where
+/// What was refused: the number in document 01 or 02, and the record or node counted from 0, or 0 where
 /// there is none.
 #[derive(Clone, Copy, Debug, PartialEq, Eq, Hash)]
 pub struct Refusal {
-    /// The limit's number in document 01.
+    /// The limit's number.
     pub number: u32,
     /// The record; for 11 and 12 the node; else 0.
     pub place: usize,

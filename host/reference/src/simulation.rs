@@ -16,7 +16,7 @@ pub struct RunAnswer {
     pub refusal: Option<Refusal>,
 }
 
-/// Refuses 2; 1, also for the grid buffers; 10; 17; the set. A step asks for one step.
+/// Refuses 2; 1, also for the grid buffers; 10; 18; 19; 17; the set. A step asks for one step.
 fn check_entry(
     settings: Settings,
     steps: i128,
@@ -26,7 +26,7 @@ fn check_entry(
     settings.size.check()?;
     check_length(records)?;
     grid.check_lengths(settings.size)?;
-    settings.check_gravity()?;
+    settings.check_forcing()?;
     require((0..=MAX_STEPS).contains(&steps), STEPS, 0)?;
     walk(settings.size, records, 0)?;
     Ok(())
@@ -46,8 +46,8 @@ fn advance(
     })
 }
 
-/// Step: scatter, update, gather. Refused at entry: 2, 1, 10, the set, and nothing has changed.
-/// Refused with 13, 14, 15: the records are as they were, the grid holds masses and updated
+/// Step: scatter, update, gather. Refused at entry: 2, 1, 10, 18, 19, the set, and nothing has
+/// changed. Refused with 13, 14, 15: the records are as they were, the grid holds masses and updated
 /// velocities.
 pub fn step(settings: Settings, records: &mut [u8], grid: &mut GridBuffers) -> Result<(), Refusal> {
     step_by(Sums::Literal, settings, records, grid)
@@ -65,7 +65,7 @@ pub fn step_by(
 }
 
 /// Run: the step repeated, as often as wanted or until one is refused. Refused at entry: 2, 1, 10,
-/// 17, the set. The records are those of the last completed step, the grid that of the last step
+/// 18, 19, 17, the set. The records are those of the last completed step, the grid that of the last step
 /// tried; a run of 0 steps touches nothing.
 pub fn run(
     settings: Settings,

@@ -1,12 +1,12 @@
 //! Scatter, update and gather: "The step" of document 01, by source document 003's transfers (3)
-//! and (4).
+//! and (4), with document 02's drag and rim.
 
 use std::ops::Range;
 
 use crate::grid::{check_node_buffers, GridBuffers, Settings, Size};
 use crate::limits::{
-    D, MAX_B, MAX_NODE_MASS, MAX_NODE_VELOCITY, MAX_VELOCITY, NODE_VELOCITY_UNIT, SPACING,
-    WEIGHT_TOTAL,
+    D, DRAG_UNIT, MAX_B, MAX_NODE_MASS, MAX_NODE_VELOCITY, MAX_VELOCITY, NODE_VELOCITY_UNIT,
+    SPACING, WEIGHT_TOTAL,
 };
 use crate::particle::Particle;
 use crate::particle_set::{check_length, pack_records, walk};
@@ -140,7 +140,13 @@ pub fn node_velocity(mass: u64, momentum: i64, gravity: i128) -> i128 {
     round_to_nearest(momentum.into(), divisor) + gravity
 }
 
-/// Updated velocities of one node, or 11 or 12 at it.
+/// What drag leaves of a node's velocity on one axis: it loses u·drag/256, rounded.
+pub fn after_drag(u: i128, drag: i128) -> i128 {
+    u - round_to_nearest(u * drag, DRAG_UNIT)
+}
+
+/// Updated velocities of one node, or 11 or 12 at it: after gravity, where 12 looks at them, then
+/// after drag, then past the rim.
 fn updated_node(settings: Settings, grid: &GridBuffers, node: usize) -> Result<[i128; 2], Refusal> {
     let (mass, momentum) = (grid.mass[node], [grid.x[node], grid.y[node]]);
     require(i128::from(mass) <= MAX_NODE_MASS, NODE_MASS, node)?;
@@ -151,15 +157,17 @@ fn updated_node(settings: Settings, grid: &GridBuffers, node: usize) -> Result<[
     ];
     let accepted = velocity.iter().all(|&u| within(u, MAX_NODE_VELOCITY));
     require(accepted, NODE_VELOCITY, node)?;
-    Ok(velocity)
+    let slowed = velocity.map(|u| after_drag(u, settings.drag));
+    let Settings { size, edge, .. } = settings;
+    Ok(edge.rim(size, size.column_and_row(node), slowed))
 }
 
 /// Update: node velocities take the place of node momenta; masses stay.
-/// Refused: 2; 1 for the grid buffers; 10; then for each node 11, 12.
+/// Refused: 2; 1 for the grid buffers; 10; 18; 19; then for each node 11, 12.
 pub fn update(settings: Settings, grid: &mut GridBuffers) -> Result<(), Refusal> {
     settings.size.check()?;
     grid.check_lengths(settings.size)?;
-    settings.check_gravity()?;
+    settings.check_forcing()?;
     let velocities = (0..settings.size.nodes())
         .map(|node| updated_node(settings, grid, node))
         .collect::<Result<Vec<_>, _>>()?;

@@ -1,9 +1,9 @@
 //! The ledger of demand 3 by itself, on made-up particles: every allowance at its edge and the least
 //! unit beyond, and what has to be kept.
 
-use reference::conservation::Ledger;
+use reference::conservation::{Ledger, NodeChanges};
 use reference::particle_set::Totals;
-use reference::{Particle, Settings, Size};
+use reference::{Grid, Particle, Settings, Size};
 
 const MOMENTUM: &str = "momentum";
 const ANGULAR: &str = "angular momentum";
@@ -31,13 +31,19 @@ fn later() -> [Particle; 3] {
     [first, second, third]
 }
 
-/// A ledger with these steps.
+/// A ledger with these steps, whose nodes drag and rim leave.
 fn ledger(start: &[Particle], steps: &[(&[Particle], Settings)]) -> Ledger {
     let mut ledger = Ledger::new(start);
     for (before, settings) in steps {
-        ledger.count_step(before, *settings);
+        ledger.count_step(before, *settings, NodeChanges::default());
     }
     ledger
+}
+
+/// Node changes of this much momentum and torque, times 2^34.
+fn changes(x: i128, y: i128, torque: i128) -> NodeChanges {
+    let momentum = [x, y];
+    NodeChanges { momentum, torque }
 }
 
 /// The particles with the first one, of mass 1, changed so that the totals gain this much.
@@ -119,6 +125,62 @@ fn several_steps() {
     let exact = [2 * 259, 2 * 995, torques];
     let allowed = [3 * 257, 3 * 257, 3 * 512 + 257 * places / 512];
     edges(&ledger(&start(), &steps), exact, allowed);
+}
+
+/// Node changes of whole numbers are counted with gravity, and the allowances stay.
+#[test]
+fn steps_with_node_changes() {
+    let (x, y) = (512 * 127, 512 * 251);
+    let allowed = [2 * 257, 2 * 257, 2 * (512 + 257 * (x + y) / 512)];
+    let mut ledger = Ledger::new(&start());
+    let counted = [
+        (gravity(3, -5), changes(7 << 34, -(11 << 34), 13_000 << 34)),
+        (gravity(0, 2), changes(-(900 << 34), 1 << 34, -(17 << 34))),
+    ];
+    for (settings, changes) in counted {
+        ledger.count_step(&start(), settings, changes);
+    }
+    let torques = (x * -5 - y * 3 + x * 2) / 256;
+    let exact = [6 + 7 - 900, -10 - 11 + 4 + 1, torques + 13_000 - 17];
+    edges(&ledger, exact, allowed);
+}
+
+/// A mass of 1 at rest at (0, 0), of which 257/512 of momentum on each axis and a whole unit of angular
+/// momentum are allowed: node changes up to these, and the least unit beyond.
+#[test]
+fn node_changes_in_their_unit() {
+    let lone = [Particle::at_rest(1, 1, 0, 0)];
+    let expect = |changes, broken| {
+        let mut ledger = Ledger::new(&lone);
+        ledger.count_step(&lone, gravity(0, 0), changes);
+        expect_of(&ledger, &lone, broken);
+    };
+    for sign in [-1, 1] {
+        let (most, turn) = (sign * (257 << 25), sign * (1 << 34));
+        expect(changes(most, -most, turn), None);
+        expect(changes(most + sign, 0, 0), Some(MOMENTUM));
+        expect(changes(0, most + sign, 0), Some(MOMENTUM));
+        expect(changes(0, 0, turn + sign), Some(ANGULAR));
+    }
+}
+
+/// The sums over nodes by hand, on 4 by 5 nodes: node (1, 2) of mass 3 gains (−5, 7) and node (3, 0) of
+/// mass 1,000 gains (2, −9); a change without mass counts for nothing.
+#[test]
+fn node_changes_by_hand() {
+    let size = Size::new(4, 5);
+    let mut before = Grid::filled(size.nodes(), 6, 40, -50);
+    let (first, second, massless) = (size.index(1, 2), size.index(3, 0), size.index(2, 2));
+    for (node, mass) in [(first, 3), (second, 1000), (massless, 0)] {
+        before.mass[node] = mass;
+    }
+    let mut after = before.clone();
+    for (node, x, y) in [(first, 35, -43), (second, 42, -59), (massless, 1, 2)] {
+        (after.x[node], after.y[node]) = (x, y);
+    }
+    let torque = 3 * (64 * 7 - 128 * -5) + 1000 * (192 * -9);
+    let expected = changes(-15 + 2000, 21 - 9000, torque);
+    assert_eq!(NodeChanges::between(size, &before, &after), expected);
 }
 
 /// A mass of 1, where an error is a whole number of 512ths: 2·g has to be at most 257.

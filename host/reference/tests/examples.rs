@@ -1,4 +1,4 @@
-//! Document 01's examples, starred and not.
+//! Document 01's examples, starred and not; the printed one with document 02's header.
 
 use reference::particle_set::{pack_records, particles};
 use reference::{check_set, program, scatter, step, totals, update, weights};
@@ -83,8 +83,8 @@ fn masses_one_and_two_at_one_place() {
 #[test]
 fn printed_program_example() {
     let input = [
-        0x10, 0x40, 0x00, 0x00, 0x00, 0x00, 0x08, 0x00, 0x20, 0x00, 0x07, 0x00, 0x81, 0x00, 0x10,
-        0x01, 0xFE, 0x00, 0x00, 0x00, 0x00, 0x00, 0x00,
+        0x10, 0x40, 0x00, 0x00, 0x00, 0x00, 0x08, 0x00, 0x20, 0x00, 0x00, 0x00, 0x07, 0x00, 0x81,
+        0x00, 0x10, 0x01, 0xFE, 0x00, 0x00, 0x00, 0x00, 0x00, 0x00,
     ];
     let output = "done 1 refusal 0 at 0\n\
                   mass 2 px 6 py -4 spin -640 motion 26\n\
@@ -95,8 +95,9 @@ fn printed_program_example() {
 #[test]
 fn program_on_refused_and_empty_files() {
     assert_eq!(program(&[]), "refused 1 at 0\n");
-    assert_eq!(program(&[0xFF; 9]), "refused 2 at 0\n");
-    let empty = [0x10, 0x40, 0x00, 0x00, 0x00, 0x00, 0x00, 0x00, 0x60];
+    assert_eq!(program(&[0xFF; 10]), "refused 1 at 0\n");
+    assert_eq!(program(&[0xFF; 11]), "refused 2 at 0\n");
+    let empty = [0x10, 0x40, 0, 0, 0, 0, 0, 0, 0x60, 0, 0];
     assert_eq!(
         program(&empty),
         "done 3 refusal 0 at 0\nmass 0 px 0 py 0 spin 0 motion 0\n"

@@ -2,7 +2,8 @@
 
 use reference::particle_set::pack_records;
 use reference::{check_set, gather, program, read_file, read_record, run, scatter, step, update};
-use reference::{write_record, Grid, Header, Particle, Refusal, RunAnswer, Settings, Size};
+use reference::{write_header, write_record};
+use reference::{Edge, Grid, Header, Particle, Refusal, RunAnswer, Settings, Size};
 
 const SMALL: Size = Size { nx: 4, ny: 4 };
 
@@ -132,12 +133,91 @@ fn gravity() {
     for g in [-4097_i128, -4096, 4096, 4097] {
         let expected = if g.abs() > 4096 { refused(10) } else { Ok(()) };
         for settings in [Settings::new(SMALL, g, 0), Settings::new(SMALL, 0, g)] {
-            let mut grid = Grid::zero(16);
-            assert_eq!(update(settings, &mut grid.buffers()), expected);
-            assert_eq!(step(settings, &mut [], &mut grid.buffers()), expected);
-            let answer = run(settings, 1, &mut [], &mut grid.buffers());
-            assert_eq!(answer.refusal, expected.err());
+            expect_settings(settings, expected);
         }
+    }
+}
+
+/// Update, step, run and write a header answer so to settings on 4 by 4 nodes.
+fn expect_settings(settings: Settings, expected: Result<(), Refusal>) {
+    let mut grid = Grid::zero(16);
+    assert_eq!(update(settings, &mut grid.buffers()), expected);
+    assert_eq!(step(settings, &mut [], &mut grid.buffers()), expected);
+    let answer = run(settings, 1, &mut [], &mut grid.buffers());
+    assert_eq!(answer.refusal, expected.err());
+    let header = Header {
+        settings,
+        count: 0,
+        steps: 1,
+    };
+    let mut file = [0; 11];
+    assert_eq!(write_header(&header, &mut file), expected);
+    assert_eq!(read_file(&file).ok(), expected.is_ok().then_some(header));
+}
+
+/// Numbers about the ends of small ranges, and those that a narrower type cuts to one of them.
+const NUMBERS: [i128; 14] = [
+    i128::MIN,
+    -1,
+    0,
+    1,
+    2,
+    3,
+    4,
+    5,
+    255,
+    256,
+    257,
+    (1 << 32) + 1,
+    (1 << 64) + 2,
+    i128::MAX,
+];
+
+#[test]
+fn kinds_and_widths() {
+    for kind in NUMBERS {
+        for width in NUMBERS {
+            let edge = Edge::new(kind, width);
+            let accepted = match kind {
+                0 => width == 0,
+                1 | 2 => [1, 2, 3].contains(&width),
+                _ => false,
+            };
+            assert_eq!(accepted, Edge::ALL.contains(&edge));
+            let expected = if accepted { Ok(()) } else { refused(18) };
+            expect_settings(Settings::new(SMALL, 0, 0).with_edge(edge), expected);
+        }
+    }
+}
+
+#[test]
+fn drags() {
+    for drag in NUMBERS.into_iter().chain([128, 254]) {
+        let accepted = [0, 1, 2, 3, 4, 5, 128, 254, 255].contains(&drag);
+        let expected = if accepted { Ok(()) } else { refused(19) };
+        expect_settings(Settings::new(SMALL, 0, 0).with_drag(drag), expected);
+    }
+}
+
+/// Every kind, width and drag that a header's bits can hold.
+#[test]
+fn edges_of_a_file() {
+    for bits in 0..1 << 12 {
+        let (kind, width, drag) = (bits >> 10, bits >> 8 & 3, bits & 255);
+        let settings = Settings::new(Size::new(4, 5), -7, 9)
+            .with_edge(Edge::new(kind, width))
+            .with_drag(drag);
+        let header = Header {
+            settings,
+            count: 0,
+            steps: 3,
+        };
+        let expected = if Edge::ALL.contains(&settings.edge) {
+            Ok(header)
+        } else {
+            refused(18)
+        };
+        assert_eq!(read_file(&header.pack(0)), expected);
     }
 }
 
@@ -368,20 +448,24 @@ fn file(nx: i128, count: i128, steps: i128, spare: i128, length: usize) -> Vec<u
 #[test]
 fn files() {
     assert_eq!(
-        read_file(&file(4, 4096, 10_000, 0, 57_353)).unwrap().count,
+        read_file(&file(4, 4096, 10_000, 0, 57_355)).unwrap().count,
         4096
     );
-    assert_eq!(read_file(&file(4, 4097, 10_000, 0, 57_367)), refused(3));
-    assert_eq!(read_file(&file(4, 8191, 16_383, 31, 9)), refused(3));
-    assert_eq!(read_file(&file(4, 0, 10_001, 31, 9)), refused(17));
-    assert_eq!(read_file(&file(48, 0, 10_000, 0, 9)).unwrap().steps, 10_000);
-    assert_eq!(read_file(&file(63, 0, 10_000, 0, 9)), refused(2));
-    for spare in [1, 2, 4, 8, 16] {
-        assert_eq!(read_file(&file(4, 1, 1, spare, 22)), refused(16));
+    assert_eq!(read_file(&file(4, 4097, 10_000, 0, 57_369)), refused(3));
+    assert_eq!(read_file(&file(4, 8191, 16_383, 511, 11)), refused(3));
+    assert_eq!(read_file(&file(4, 0, 10_001, 511, 11)), refused(17));
+    assert_eq!(
+        read_file(&file(48, 0, 10_000, 0, 11)).unwrap().steps,
+        10_000
+    );
+    assert_eq!(read_file(&file(63, 0, 10_000, 0, 11)), refused(2));
+    for bit in 0..9 {
+        assert_eq!(read_file(&file(4, 1, 1, 1 << bit, 24)), refused(16));
     }
-    for length in [9, 22, 24, 37] {
+    for length in [9, 10, 11, 24, 26, 39] {
         assert_eq!(read_file(&file(4, 1, 1, 0, length)), refused(1));
     }
     assert_eq!(program(&file(4, 1, 1, 0, 100_000)), "refused 1 at 0\n");
-    assert_eq!(program(&vec![0x41; 100_000]), "refused 16 at 0\n");
+    assert_eq!(program(&vec![0x41; 100_000]), "refused 18 at 0\n");
+    assert_eq!(program(&vec![0x70; 100_000]), "refused 16 at 0\n");
 }

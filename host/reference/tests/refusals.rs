@@ -1,11 +1,11 @@
-//! Every refusal of every operation, in document 01's order: a call with all faults at once is
+//! Every refusal of every operation, in the documents' order: a call with all faults at once is
 //! refused for the first, and with the first few mended for the next.
 
 use reference::limits::{HEADER_LENGTH, RECORD_LENGTH};
 use reference::particle_set::pack_records;
 use reference::{check_set, gather, read_file, read_record, run, scatter, step, totals};
 use reference::{update, write_header, write_record};
-use reference::{Grid, Header, Particle, Refusal, Settings, Size};
+use reference::{Edge, Grid, Header, Particle, Refusal, Settings, Size};
 
 /// Everything that an operation may be given.
 #[derive(Clone, Debug, PartialEq)]
@@ -30,7 +30,9 @@ fn accepted_call() -> Call {
         .collect();
     particles[FAULTY].mass = 128;
     Call {
-        settings: Settings::new(size, 4096, -4096),
+        settings: Settings::new(size, 4096, -4096)
+            .with_edge(Edge::slip(3))
+            .with_drag(255),
         steps: 0,
         count: particles.len() as i128,
         spare: 0,
@@ -47,13 +49,16 @@ impl Call {
         records
     }
 
-    fn file(&self) -> Vec<u8> {
-        let header = Header {
+    fn header(&self) -> Header {
+        Header {
             settings: self.settings,
             count: self.count,
             steps: self.steps,
-        };
-        [header.pack(self.spare).to_vec(), self.records()].concat()
+        }
+    }
+
+    fn file(&self) -> Vec<u8> {
+        [self.header().pack(self.spare).to_vec(), self.records()].concat()
     }
 }
 
@@ -74,9 +79,20 @@ const GRAVITY: [Fault; 2] = [
     (|call| call.settings.gx = 4097, 10, 0),
     (|call| call.settings.gy = -4097, 10, 0),
 ];
+const EDGE: [Fault; 5] = [
+    (|call| call.settings.edge = Edge::new(3, 2), 18, 0),
+    (|call| call.settings.edge = Edge::new(0, 2), 18, 0),
+    (|call| call.settings.edge = Edge::sticky(4), 18, 0),
+    (|call| call.settings.edge = Edge::sticky(0), 18, 0),
+    (|call| call.settings.edge = Edge::slip(0), 18, 0),
+];
+const DRAG: [Fault; 1] = [(|call| call.settings.drag = 256, 19, 0)];
 const COUNT: [Fault; 1] = [(|call| call.count = 4097, 3, 0)];
 const STEPS: [Fault; 1] = [(|call| call.steps = 10_001, 17, 0)];
-const SPARE: [Fault; 1] = [(|call| call.spare = 1, 16, 0)];
+const SPARE: [Fault; 2] = [
+    (|call| call.spare |= 1 << 4, 16, 0),
+    (|call| call.spare |= 1 << 3, 16, 0),
+];
 const SET: [Fault; 10] = [
     (|call| call.particles[FAULTY].mass = 0, 4, FAULTY),
     (|call| call.particles[FAULTY].vx = -64, 5, FAULTY),
@@ -151,14 +167,13 @@ fn update_refusals() {
         (|call| call.grid.mass[4] = 0, 11, 4),
         (|call| call.grid.mass[19] = u64::MAX, 11, 19),
     ];
-    let faults = [&SIZE[..], &MASS_BUFFER, &VECTOR_BUFFERS, &GRAVITY, &nodes];
+    let operation =
+        |call: &mut Call, _: &mut Vec<u8>| update(call.settings, &mut call.grid.buffers()).err();
     // Buffer faults shorten the grid, so node faults are tried apart from them.
-    climb(&faults[..4], |call, _| {
-        update(call.settings, &mut call.grid.buffers()).err()
-    });
-    climb(&[&SIZE, &MASS_BUFFER, &GRAVITY, &nodes], |call, _| {
-        update(call.settings, &mut call.grid.buffers()).err()
-    });
+    let buffers = [&SIZE[..], &MASS_BUFFER, &VECTOR_BUFFERS, &GRAVITY];
+    climb(&[&buffers[..], &[&EDGE, &DRAG]].concat(), operation);
+    let faults = [&SIZE[..], &MASS_BUFFER, &GRAVITY, &EDGE, &DRAG, &nodes];
+    climb(&faults, operation);
 }
 
 #[test]
@@ -178,6 +193,8 @@ fn step_refusals() {
         &MASS_BUFFER,
         &VECTOR_BUFFERS,
         &GRAVITY,
+        &EDGE,
+        &DRAG,
         &SET,
     ];
     climb(&faults, |call, records| {
@@ -193,6 +210,8 @@ fn run_refusals() {
         &MASS_BUFFER,
         &VECTOR_BUFFERS,
         &GRAVITY,
+        &EDGE,
+        &DRAG,
         &STEPS,
         &SET,
     ];
@@ -208,6 +227,7 @@ fn file_refusals() {
     let faults = [
         &SIZE[..],
         &GRAVITY,
+        &EDGE,
         &COUNT,
         &STEPS,
         &SPARE,
@@ -217,7 +237,7 @@ fn file_refusals() {
     climb(&faults, |call, _| read_file(&call.file()).err());
     let cut: Fault = (|call| call.particles.truncate(FAULTY), 1, 0);
     climb(
-        &[&SIZE, &GRAVITY, &COUNT, &STEPS, &SPARE, &[cut]],
+        &[&SIZE, &GRAVITY, &EDGE, &COUNT, &STEPS, &SPARE, &[cut]],
         |call, _| read_file(&call.file()).err(),
     );
 }
@@ -234,27 +254,19 @@ fn file_shorter_than_its_header() {
 
 #[test]
 fn header_refusals() {
-    for length in [0, 8, 10] {
+    for length in [0, 9, 10, 12] {
         let mut buffer = vec![0xA5; length];
         let mut call = accepted_call();
         call.settings.size.nx = 3;
-        let header = Header {
-            settings: call.settings,
-            count: 4097,
-            steps: 10_001,
-        };
-        let answer = write_header(&header, &mut buffer);
+        (call.count, call.steps) = (4097, 10_001);
+        let answer = write_header(&call.header(), &mut buffer);
         assert_eq!(answer, Err(Refusal::at(1, 0)));
         assert_eq!(buffer, vec![0xA5; length]);
     }
-    climb(&[&SIZE, &GRAVITY, &COUNT, &STEPS], |call, _| {
+    let faults = [&SIZE[..], &GRAVITY, &EDGE, &DRAG, &COUNT, &STEPS];
+    climb(&faults, |call, _| {
         let mut buffer = [0xA5; HEADER_LENGTH];
-        let header = Header {
-            settings: call.settings,
-            count: call.count,
-            steps: call.steps,
-        };
-        let answer = write_header(&header, &mut buffer);
+        let answer = write_header(&call.header(), &mut buffer);
         assert_eq!(answer.is_err(), buffer == [0xA5; HEADER_LENGTH]);
         answer.err()
     });

@@ -5,12 +5,12 @@ use reference::bits::unpack;
 use reference::generator::Generator;
 use reference::particle::LAYOUT as RECORD;
 use reference::{read_file, read_record, write_header, write_record};
-use reference::{Header, Particle, Settings, Size};
+use reference::{Edge, Header, Particle, Settings, Size};
 
 #[test]
 fn layouts_fill_their_bytes() {
     assert_eq!(RECORD.map(|field| field.bits).iter().sum::<u32>(), 14 * 8);
-    assert_eq!(HEADER.map(|field| field.bits).iter().sum::<u32>(), 9 * 8);
+    assert_eq!(HEADER.map(|field| field.bits).iter().sum::<u32>(), 11 * 8);
 }
 
 #[test]
@@ -81,12 +81,16 @@ fn headers() {
     for _ in 0..5_000 {
         let size = generator.size();
         let mut gravity = || generator.between(-4096, 4096);
+        let settings = Settings::new(size, gravity(), gravity())
+            .with_edge(generator.edge())
+            .with_drag(generator.between(0, 255));
         let header = Header {
-            settings: Settings::new(size, gravity(), gravity()),
+            settings,
             count: 0,
             steps: generator.between(0, 10_000),
         };
-        let mut file = [0xFF; 9];
+        assert_eq!(Header::of(header.values()), header);
+        let mut file = [0xFF; 11];
         assert_eq!(write_header(&header, &mut file), Ok(()));
         assert_eq!(read_file(&file), Ok(header));
     }
@@ -97,14 +101,15 @@ fn accepted_headers_from_bytes() {
     let mut generator = Generator::new(5);
     let mut accepted = 0;
     for _ in 0..200_000 {
-        let mut file: [u8; 9] = std::array::from_fn(|_| generator.bits() as u8);
+        let mut file: [u8; 11] = std::array::from_fn(|_| generator.bits() as u8);
         file[5] = 0;
         file[6] &= 0x07;
         file[8] &= 0xE0;
+        file[10] &= 0xF0;
         let Ok(header) = read_file(&file) else {
             continue;
         };
-        let mut again = [0; 9];
+        let mut again = [0; 11];
         assert_eq!(write_header(&header, &mut again), Ok(()));
         assert_eq!(again, file);
         accepted += 1;
@@ -119,6 +124,23 @@ fn printed_header() {
         count: 1,
         steps: 1,
     };
-    let bytes = [0x10, 0x40, 0x00, 0x00, 0x00, 0x00, 0x08, 0x00, 0x20];
+    let bytes = [0x10, 0x40, 0, 0, 0, 0, 0x08, 0, 0x20, 0, 0];
     assert_eq!(header.pack(0), bytes);
+}
+
+/// Kind 2, width 3 and drag 200 behind the first nine bytes, then the last four spare bits; the first
+/// five are the last of the ninth byte.
+#[test]
+fn bits_of_the_edge_and_drag() {
+    let settings = Settings::new(Size::new(4, 5), 0, 0)
+        .with_edge(Edge::slip(3))
+        .with_drag(0b1100_1000);
+    let header = Header {
+        settings,
+        count: 0,
+        steps: 0,
+    };
+    let last = |spare: i128| header.pack(spare)[8..].to_vec();
+    assert_eq!(last(0), [0, 0b1011_1100, 0b1000_0000]);
+    assert_eq!(last(0b1_0001_1001), [0b10001, 0b1011_1100, 0b1000_1001]);
 }

@@ -1,11 +1,11 @@
 //! Steps, runs and lists of calls.
 
-use reference::conservation::Ledger;
+use reference::conservation::{Ledger, NodeChanges};
 use reference::generator::Generator;
 use reference::particle_set::{pack_records, particles};
 use reference::simulation::run_by;
 use reference::{gather, run, scatter, step, update};
-use reference::{Grid, Particle, Refusal, RunAnswer, Settings, Size, Sums};
+use reference::{Edge, Grid, Particle, Refusal, RunAnswer, Settings, Size, Sums};
 
 fn lone(x: i128, vx: i128) -> Particle {
     Particle::at_rest(40, 3, x, 100).moving(vx, 0)
@@ -24,7 +24,9 @@ fn a_step_is_scatter_update_gather() {
     let mut generator = Generator::new(20);
     for _ in 0..200 {
         let size = Size::new(generator.between(4, 9), generator.between(4, 9));
-        let settings = Settings::new(size, generator.between(-300, 300), 40);
+        let settings = Settings::new(size, generator.between(-300, 300), 40)
+            .with_edge(generator.edge())
+            .with_drag(generator.between(0, 255));
         let mut records = pack_records(&generator.particles(size, 6, 20, 500));
         let expected_grid = updated_grid(settings, &records);
         let mut expected = records.clone();
@@ -142,7 +144,9 @@ fn a_run_is_the_step_repeated() {
     let mut generator = Generator::new(21);
     for _ in 0..60 {
         let size = Size::new(generator.between(4, 12), generator.between(4, 12));
-        let settings = Settings::new(size, generator.between(-4, 4), generator.between(-4, 4));
+        let settings = Settings::new(size, generator.between(-4, 4), generator.between(-4, 4))
+            .with_edge(generator.edge())
+            .with_drag(generator.one_of(&[0, 1, 30]));
         let start = pack_records(&generator.particles(size, 8, 3, 20));
         let wanted = generator.between(0, 50);
         let (mut records, mut grid) = (start.clone(), Grid::zero(size.nodes()));
@@ -160,6 +164,14 @@ fn a_run_is_the_step_repeated() {
     }
 }
 
+/// Both ledgers with one more step of these particles.
+fn count_step(ledgers: [&mut Ledger; 2], before: &[Particle], settings: Settings) {
+    let changes = NodeChanges::of_step(before, settings);
+    for ledger in ledgers {
+        ledger.count_step(before, settings, changes);
+    }
+}
+
 /// Every accepted set is one on the largest grid too.
 const LARGEST: Size = Size { nx: 48, ny: 48 };
 
@@ -169,14 +181,18 @@ fn call(generator: &mut Generator, size: Size, records: &mut [u8], ledger: &mut 
     let wider = generator.between(-1, 3);
     let size = Size::new(size.nx + wider, size.ny + wider.max(0));
     let g = generator.one_of(&[0, 1, 40, 200]);
-    let mut settings = Settings::new(size, generator.between(-g, g), generator.between(-g, g));
+    let mut settings = Settings::new(size, generator.between(-g, g), generator.between(-g, g))
+        .with_edge(generator.edge())
+        .with_drag(generator.one_of(&[0, 0, 1, 9, 128, 255]));
     let mut steps = generator.between(0, 12);
     let mut grid = Grid::filled(size.nodes(), generator.bits(), -1, 1);
     if refused_entry {
-        match generator.between(0, 3) {
+        match generator.between(0, 5) {
             0 => settings.size.nx = generator.one_of(&[0, 3, 49]),
             1 => grid.y.push(0),
             2 => settings.gy = 4097,
+            3 => settings.edge = Edge::new(generator.one_of(&[0, 3]), 1),
+            4 => settings.drag = 256,
             _ => steps = 10_001,
         }
     }
@@ -185,8 +201,7 @@ fn call(generator: &mut Generator, size: Size, records: &mut [u8], ledger: &mut 
     for _ in 0..answer.completed {
         let before = particles(LARGEST, &stepped).unwrap();
         let mut one_step = Ledger::new(&before);
-        one_step.count_step(&before, settings);
-        ledger.count_step(&before, settings);
+        count_step([&mut one_step, ledger], &before, settings);
         let mut grid = Grid::zero(size.nodes());
         let one = run_by(Sums::Nearby, settings, 1, &mut stepped, &mut grid.buffers());
         assert_eq!((one.completed, one.refusal), (1, None));
@@ -221,4 +236,61 @@ fn lists_of_calls_keep_to_demand_3() {
         completed += ledger.completed;
     }
     assert!(completed > 500, "{completed}");
+}
+
+/// A run of at most so many steps, each checked by itself and with those before; the completed ones.
+fn keeps_to_demand_3(settings: Settings, start: &[Particle], steps: usize) -> usize {
+    let mut records = pack_records(start);
+    let mut grid = Grid::zero(settings.size.nodes());
+    let mut ledger = Ledger::new(start);
+    let mut before = start.to_vec();
+    for completed in 0..steps {
+        let mut alone = Ledger::new(&before);
+        count_step([&mut alone, &mut ledger], &before, settings);
+        if step(settings, &mut records, &mut grid.buffers()).is_err() {
+            return completed;
+        }
+        before = particles(settings.size, &records).unwrap();
+        alone.check(&before).unwrap();
+        ledger.check(&before).unwrap();
+    }
+    steps
+}
+
+/// Drags at their ends, about a half, and between.
+const DRAGS: [i128; 8] = [0, 1, 2, 31, 127, 128, 254, 255];
+
+#[test]
+fn every_edge_and_drag_keeps_to_demand_3() {
+    let mut generator = Generator::new(23);
+    for edge in Edge::ALL {
+        for drag in DRAGS {
+            let mut completed = 0;
+            for (nx, ny) in [(4, 5), (6, 4), (7, 9), (12, 8)] {
+                let (gx, gy) = (generator.between(-90, 90), generator.between(-200, 200));
+                let settings = Settings::new(Size::new(nx, ny), gx, gy)
+                    .with_edge(edge)
+                    .with_drag(drag);
+                let start = generator.particles(settings.size, 15, 12, 400);
+                completed += keeps_to_demand_3(settings, &start, 15);
+            }
+            assert!(completed > 0, "{edge:?} {drag}");
+        }
+    }
+}
+
+/// Momentum without the rim's share is far beyond its allowance: a particle of mass 1,000 that comes to
+/// rest in a sticky band.
+#[test]
+fn node_changes_matter() {
+    let start = [Particle::at_rest(5, 1000, 96, 80).moving(20, -9)];
+    let settings = Settings::new(Size::new(4, 5), 0, 0).with_edge(Edge::sticky(3));
+    assert_eq!(keeps_to_demand_3(settings, &start, 3), 3);
+    let mut records = pack_records(&start);
+    step(settings, &mut records, &mut Grid::zero(20).buffers()).unwrap();
+    let mut without = Ledger::new(&start);
+    without.count_step(&start, settings, NodeChanges::default());
+    let after = particles(settings.size, &records).unwrap();
+    assert_eq!(after, [Particle::at_rest(5, 1000, 96, 80)]);
+    assert!(without.check(&after).is_err());
 }

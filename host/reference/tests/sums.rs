@@ -11,7 +11,9 @@ fn compare(generator: &mut Generator, size: Size, count: usize, v: i128, b: i128
     let records = pack_records(&generator.particles(size, count, v, b));
     assert!(particles(size, &records).is_ok());
     let g = |generator: &mut Generator| generator.between(-4096, 4096) / 16;
-    let settings = Settings::new(size, g(generator), g(generator));
+    let settings = Settings::new(size, g(generator), g(generator))
+        .with_edge(generator.edge())
+        .with_drag(generator.one_of(&[0, 1, 77, 255]));
     let outcomes = [Sums::Literal, Sums::Nearby].map(|sums| {
         let mut grid = Grid::filled(size.nodes(), 3, -4, 5);
         let scattered = scatter_by(sums, size, &records, &mut grid.buffers());
@@ -95,7 +97,9 @@ fn runs() {
         let count = generator.between(0, 20) as usize;
         let records = pack_records(&generator.particles(size, count, 2, 30));
         let steps = generator.between(0, 60);
-        let settings = Settings::new(size, generator.between(-3, 3), generator.between(-3, 3));
+        let settings = Settings::new(size, generator.between(-3, 3), generator.between(-3, 3))
+            .with_edge(generator.edge())
+            .with_drag(generator.one_of(&[0, 1, 20]));
         let outcomes = [Sums::Literal, Sums::Nearby].map(|sums| {
             let (mut records, mut grid) = (records.clone(), Grid::zero(size.nodes()));
             let answer = run_by(sums, settings, steps, &mut records, &mut grid.buffers());

@@ -4,9 +4,10 @@
 #![warn(missing_docs)]
 
 use reference::generator::Generator;
+use reference::limits::D;
 use reference::particle_set::pack_records;
 use reference::report::program_by;
-use reference::{Header, Particle, Settings, Size, Sums};
+use reference::{Edge, Header, Particle, Settings, Size, Sums};
 
 /// A bath file with its name.
 #[derive(Clone, Debug, PartialEq, Eq)]
@@ -35,6 +36,8 @@ pub fn samples() -> Vec<Sample> {
         thrown(),
         falling(),
         full(),
+        sticky(),
+        drag(),
     ]
 }
 
@@ -132,19 +135,31 @@ fn disc(generator: &mut Generator, radius: i128, count: usize) -> Vec<(i128, i12
     places
 }
 
-/// A turning disc that flies apart; after some steps a particle would leave the grid.
-fn leaving() -> Sample {
-    let mut generator = Generator::new(11);
-    let particles: Vec<Particle> = disc(&mut generator, 320, 240)
+/// A disc of particles around a place that spreads and turns as a whole, by so many 1024ths of the
+/// distance per step.
+fn whirl(
+    seed: u64,
+    (radius, count): (i128, usize),
+    place: (i128, i128),
+    spread: i128,
+    turn: i128,
+) -> Vec<Particle> {
+    let mut generator = Generator::new(seed);
+    disc(&mut generator, radius, count)
         .into_iter()
         .enumerate()
         .map(|(k, (dx, dy))| {
             let mass = generator.between(1, 40);
-            Particle::at_rest(1000 + 3 * k as u16, mass, 736 + dx, 736 + dy)
-                .moving(-dy / 64, dx / 64)
-                .with_b([0, -16, 16, 0])
+            Particle::at_rest(1000 + 3 * k as u16, mass, place.0 + dx, place.1 + dy)
+                .moving((spread * dx - turn * dy) / D, (turn * dx + spread * dy) / D)
+                .with_b([spread, -turn, turn, spread])
         })
-        .collect();
+        .collect()
+}
+
+/// A turning disc that flies apart; after some steps a particle would leave the grid.
+fn leaving() -> Sample {
+    let particles = whirl(11, (320, 240), (736, 736), 0, 16);
     Sample {
         name: "leaving",
         file: bath_file(still(24, 24), 1_000, &particles),
@@ -207,5 +222,26 @@ fn full() -> Sample {
     Sample {
         name: "full",
         file: bath_file(settings, 40, &particles),
+    }
+}
+
+/// Spreads and turns until a sticky rim holds it all around; with open edges a particle would leave
+/// the grid.
+fn sticky() -> Sample {
+    let settings = Settings::new(Size::new(22, 14), 9, -14).with_edge(Edge::sticky(2));
+    let particles = whirl(19, (200, 80), (640, 420), 34, 26);
+    Sample {
+        name: "sticky",
+        file: bath_file(settings, 300, &particles),
+    }
+}
+
+/// Spreads and turns in water that slows it to a drift; without drag a particle would leave the grid.
+fn drag() -> Sample {
+    let settings = Settings::new(Size::new(34, 29), 45, -70).with_drag(60);
+    let particles = whirl(23, (250, 90), (1000, 900), 64, 102);
+    Sample {
+        name: "drag",
+        file: bath_file(settings, 240, &particles),
     }
 }

@@ -1,11 +1,11 @@
 //! What each sample shows.
 
-use reference::conservation::Ledger;
+use reference::conservation::{Ledger, NodeChanges};
 use reference::limits::HEADER_LENGTH;
-use reference::particle_set::particles;
+use reference::particle_set::{particles, Totals};
 use reference::report::program_by;
 use reference::simulation::run_by;
-use reference::{read_file, Grid, Header, Particle, RunAnswer, Settings, Size, Sums};
+use reference::{read_file, Edge, Grid, Header, Particle, RunAnswer, Settings, Size, Sums};
 use samples::{samples, Sample};
 
 fn sample(name: &str) -> Sample {
@@ -14,11 +14,19 @@ fn sample(name: &str) -> Sample {
 }
 
 /// The settings, the particles before and after the run, and the run's answer.
-fn run_sample(name: &str) -> (Settings, Vec<Particle>, Vec<Particle>, RunAnswer) {
+type Ran = (Settings, Vec<Particle>, Vec<Particle>, RunAnswer);
+
+fn run_sample(name: &str) -> Ran {
+    run_changed(name, |settings| settings)
+}
+
+/// The sample's records and steps with other settings.
+fn run_changed(name: &str, change: fn(Settings) -> Settings) -> Ran {
     let file = sample(name).file;
     let Header {
         settings, steps, ..
     } = read_file(&file).unwrap();
+    let settings = change(settings);
     let mut records = file[HEADER_LENGTH..].to_vec();
     let before = particles(settings.size, &records).unwrap();
     let mut grid = Grid::zero(settings.size.nodes());
@@ -73,7 +81,7 @@ fn leaving_stops_with_15() {
 
 /// Gravity on both axes, not the same, and a grid that is not square.
 fn is_skew(settings: Settings) -> bool {
-    let Settings { size, gx, gy } = settings;
+    let Settings { size, gx, gy, .. } = settings;
     size.nx != size.ny && gx != gy && gx != 0 && gy != 0
 }
 
@@ -113,6 +121,47 @@ fn full_is_full() {
     assert!(moving(&after) > 1_000);
 }
 
+/// The longest distance on one axis between two particles.
+fn extent(particles: &[Particle]) -> i128 {
+    let along = |coordinate: fn(&Particle) -> i128| {
+        let places = || particles.iter().map(coordinate);
+        places().max().unwrap() - places().min().unwrap()
+    };
+    along(|p| p.x).max(along(|p| p.y))
+}
+
+#[test]
+fn sticky_holds_what_would_leave() {
+    let (settings, before, after, answer) = run_sample("sticky");
+    assert!(is_skew(settings));
+    assert_eq!(settings.edge, Edge::sticky(2));
+    assert_eq!((answer.completed, answer.refusal), (300, None));
+    assert_eq!(kept(&after), kept(&before));
+    assert!(extent(&after) > 2 * extent(&before));
+    assert!(moving(&before) > 70 && moving(&after) < 20);
+    let (_, _, _, answer) = run_changed("sticky", |settings| settings.with_edge(Edge::OPEN));
+    assert_eq!(answer.refusal.map(|refusal| refusal.number), Some(15));
+    assert!((10..100).contains(&answer.completed));
+}
+
+fn motion(particles: &[Particle]) -> i128 {
+    Totals::of(particles).motion
+}
+
+#[test]
+fn drag_slows_what_would_leave() {
+    let (settings, before, after, answer) = run_sample("drag");
+    assert!(is_skew(settings));
+    assert_eq!((settings.edge, settings.drag), (Edge::OPEN, 60));
+    assert_eq!((answer.completed, answer.refusal), (240, None));
+    assert_eq!(kept(&after), kept(&before));
+    assert!(extent(&after) > 2 * extent(&before));
+    assert!(50 * motion(&after) < motion(&before));
+    let (_, _, without, answer) = run_changed("drag", |settings| settings.with_drag(0));
+    assert_eq!(answer.refusal.map(|refusal| refusal.number), Some(15));
+    assert!(answer.completed > 10 && motion(&without) > motion(&before));
+}
+
 #[test]
 fn small_ones_print_this() {
     let printed = "done 1 refusal 0 at 0\n\
@@ -133,8 +182,9 @@ fn keeps_to_demand_3(name: &str) {
     let mut now = before;
     for _ in 0..answer.completed {
         let mut one_step = Ledger::new(&now);
-        one_step.count_step(&now, settings);
-        ledger.count_step(&now, settings);
+        let changes = NodeChanges::of_step(&now, settings);
+        one_step.count_step(&now, settings, changes);
+        ledger.count_step(&now, settings, changes);
         let one = run_by(Sums::Nearby, settings, 1, &mut records, &mut grid.buffers());
         assert_eq!((one.completed, one.refusal), (1, None));
         now = particles(settings.size, &records).unwrap();
@@ -146,9 +196,17 @@ fn keeps_to_demand_3(name: &str) {
 
 #[test]
 fn runs_keep_to_demand_3() {
-    ["spreading", "leaving", "thrown", "falling", "full"]
-        .into_iter()
-        .for_each(keeps_to_demand_3);
+    [
+        "spreading",
+        "leaving",
+        "thrown",
+        "falling",
+        "full",
+        "sticky",
+        "drag",
+    ]
+    .into_iter()
+    .for_each(keeps_to_demand_3);
 }
 
 /// The file with another number of steps.
@@ -163,7 +221,12 @@ fn with_steps(file: &[u8], steps: i128) -> Vec<u8> {
 #[test]
 fn first_steps_by_literal_sums() {
     let few = [("spreading", 20), ("leaving", 20), ("full", 1)];
-    let whole = [("thrown", 34), ("falling", 200)];
+    let whole = [
+        ("thrown", 34),
+        ("falling", 200),
+        ("sticky", 300),
+        ("drag", 240),
+    ];
     for (name, steps) in few.into_iter().chain(whole) {
         let file = with_steps(&sample(name).file, steps);
         let literal = program_by(Sums::Literal, &file);

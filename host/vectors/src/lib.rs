@@ -1,4 +1,4 @@
-//! Calls of every operation of document 01 with their answers by the reference, one per line.
+//! Calls of every operation of documents 01 and 02 with their answers by the reference, one per line.
 //!
 //! # A line
 //!
@@ -101,8 +101,8 @@ pub struct Case {
     pub answer: Answer,
     /// The buffers after the call by the reference.
     pub after: Buffers,
-    /// The refusal written down with the case, to hold against the answer; worked out from document
-    /// 01 but for `run/stopped-at-its-6th-step-by-14` and `list/spreading/6`, where the reference
+    /// The refusal written down with the case, to hold against the answer; worked out from documents
+    /// 01 and 02 but for `run/stopped-at-its-6th-step-by-14` and `list/spreading/6`, where the reference
     /// gave it.
     pub stated: Option<Refusal>,
 }

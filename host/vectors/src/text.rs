@@ -19,25 +19,40 @@ impl Display for Case {
     }
 }
 
+/// Numbers, each behind its name.
+fn named<const N: usize>(names: [&str; N], numbers: [i128; N]) -> String {
+    let words = names.iter().zip(numbers);
+    let words: Vec<String> = words.map(|(name, n)| format!("{name} {n}")).collect();
+    words.join(" ")
+}
+
 fn size_text(size: Size) -> String {
-    format!("nx {} ny {}", size.nx, size.ny)
+    named(["nx", "ny"], [size.nx, size.ny])
 }
 
 fn settings_text(settings: Settings) -> String {
-    let Settings { size, gx, gy } = settings;
-    format!("{} gx {gx} gy {gy}", size_text(size))
+    let Settings {
+        size,
+        gx,
+        gy,
+        edge,
+        drag,
+    } = settings;
+    let names = ["gx", "gy", "kind", "width", "drag"];
+    let numbers = [gx, gy, edge.kind, edge.width, drag];
+    format!("{} {}", size_text(size), named(names, numbers))
 }
 
 fn header_text(header: &Header) -> String {
-    let settings = settings_text(header.settings);
-    format!("{settings} count {} steps {}", header.count, header.steps)
+    let names = [
+        "nx", "ny", "gx", "gy", "count", "steps", "kind", "width", "drag",
+    ];
+    named(names, header.values())
 }
 
 fn particle_text(particle: &Particle) -> String {
     let names = reference::particle::LAYOUT.map(|field| field.name);
-    let fields = names.iter().zip(particle.fields());
-    let words: Vec<String> = fields.map(|(name, n)| format!("{name} {n}")).collect();
-    words.join(" ")
+    named(names, particle.fields())
 }
 
 impl Display for Operation {

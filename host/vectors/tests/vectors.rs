@@ -4,7 +4,7 @@ use std::collections::{BTreeMap, BTreeSet};
 
 use vectors::{cases, Answer, Case, Operation};
 
-/// The refusals that document 01 lists for each operation.
+/// The refusals that documents 01 and 02 list for each operation.
 const LISTED: [(&str, &[u32]); 12] = [
     ("read-record", &[1, 4, 5, 6]),
     ("write-record", &[1, 4, 5, 6, 7]),
@@ -12,12 +12,12 @@ const LISTED: [(&str, &[u32]); 12] = [
     ("totals", &[1, 2, 4, 5, 6, 7, 8, 9]),
     ("weights", &[7]),
     ("scatter", &[1, 2, 4, 5, 6, 7, 8, 9]),
-    ("update", &[1, 2, 10, 11, 12]),
+    ("update", &[1, 2, 10, 11, 12, 18, 19]),
     ("gather", &[1, 2, 4, 5, 6, 7, 8, 9, 12, 13, 14, 15]),
-    ("step", &[1, 2, 4, 5, 6, 7, 8, 9, 10, 13, 14, 15]),
-    ("run", &[1, 2, 4, 5, 6, 7, 8, 9, 10, 13, 14, 15, 17]),
-    ("read-file", &[1, 2, 3, 4, 5, 6, 7, 8, 9, 10, 16, 17]),
-    ("write-header", &[1, 2, 3, 10, 17]),
+    ("step", &[1, 2, 4, 5, 6, 7, 8, 9, 10, 13, 14, 15, 18, 19]),
+    ("run", &[1, 2, 4, 5, 6, 7, 8, 9, 10, 13, 14, 15, 17, 18, 19]),
+    ("read-file", &[1, 2, 3, 4, 5, 6, 7, 8, 9, 10, 16, 17, 18]),
+    ("write-header", &[1, 2, 3, 10, 17, 18, 19]),
 ];
 
 fn group(case: &Case) -> &str {
@@ -110,6 +110,8 @@ fn stopped_runs() {
     assert_eq!(completed("run/stopped-at-its-6th-step-by-14"), 5);
     assert_eq!(completed("run/stopped-at-its-46th-step-by-15"), 45);
     assert_eq!(completed("run/stopped-at-its-64th-step-by-13"), 63);
+    assert_eq!(completed("run/80-steps-open"), 54);
+    assert_eq!(completed("list/held/9"), 16);
     assert_eq!(completed("run/0-steps-of-what-would-stop"), 0);
     assert_eq!(completed("run/10000-steps-of-nothing"), 10_000);
 }

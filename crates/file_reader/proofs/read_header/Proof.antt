@@ -1,7 +1,8 @@
 -- `read_header` meets its contract: each way out by the law of its check. Assumes nothing.
 use borrow.Author.Needs.{needs}
+use borrow.Author.Tests.{not-true, not-false}
 use Prim.Native.Nat.{ℕ}
-use mathlib.Core.Path.{_≡_, sym, ap, subst, _∙_}
+use mathlib.Core.Path.{_≡_, sym, ap, _∙_}
 use mathlib.Core.List.{List}
 use denote.Ref.{now}
 use lib.ListN.{length, take}
@@ -30,7 +31,7 @@ cut c = c .before .before .before
 abbrev refused : tie.After-known-told → tie.After-check-values
 refused c = c .before .before .before
 
-abbrev accepted : tie.After-spare-bits → tie.After-check-values
+abbrev accepted : tie.After-spare-is-zero → tie.After-check-values
 accepted c = c .before .before .before .before
 
 -- what the values' checks answer of the header that the first bytes hold
@@ -55,14 +56,14 @@ enum-known-refusal c = search needs
 enum-known-h : tie.Need-enum-known-h
 enum-known-h c = search needs
 
-spare-bits-requires : tie.Need-spare-bits-requires
-spare-bits-requires c κs = long (cut (c .before .before .before))
+spare-is-zero-requires : tie.Need-spare-is-zero-requires
+spare-is-zero-requires c κs = long (cut (c .before .before .before))
 
 returns-2 : tie.Need-returns-2
 returns-2 c =
     let s = c .before in
     let v = accepted s in
-    sym (header-spare (bytes (cut v)) (cut v .if1 .left) (values v ∙ ap toldRead (s .before .before .h .given .1)) (subst (λ n. n ≡ 0 → ⊥) (s .spare-bits .ensures) (c .if2 .taken)))
+    sym (header-spare (bytes (cut v)) (cut v .if1 .left) (values v ∙ ap toldRead (s .before .before .h .given .1)) (sym (s .spare-is-zero .ensures) ∙ not-true _ (c .if2 .taken)))
 
 returns-3 : tie.Need-returns-3
 returns-3 c =
@@ -73,7 +74,7 @@ returns-4 : tie.Need-returns-4
 returns-4 c =
     let s = c .before in
     let v = accepted s in
-    sym (header-accepted (bytes (cut v)) (cut v .if1 .left) (values v ∙ ap toldRead (s .before .before .h .given .1)) (sym (s .spare-bits .ensures) ∙ c .if2 .left))
+    sym (header-accepted (bytes (cut v)) (cut v .if1 .left) (values v ∙ ap toldRead (s .before .before .h .given .1)) (sym (s .spare-is-zero .ensures) ∙ not-false _ (c .if2 .left)))
 
 pub read-header-spec : {M : Type 1} → statement M
 read-header-spec =
@@ -85,7 +86,7 @@ read-header-spec =
     check-values-requires
     enum-known-refusal
     enum-known-h
-    spare-bits-requires
+    spare-is-zero-requires
     returns-2
     returns-3
     returns-4)

@@ -1,31 +1,23 @@
--- `gather_round::rounded` meets its contract: the sign's bits, as a number, are 0 or −1, so the shift is `nearest-shift`'s.
+-- `gather_round::rounded` meets its contract, by `rounded-shift`.
 -- Assumes nothing.
-use mathlib.Core.Path.{_≡_, sym, ap, _∙_}
-use mathlib.Core.Bool.{cond}
+use mathlib.Core.Path.{_≡_}
 use Prim.Native.Nat.{ℕ, _^_}
-use native.Mathlib.Omega.{arith}
-use lib.IntN.{ℤ, pos, negsuc, negℤ, _+ℤ_}
-use lib.Signed.{shrZ, nonNeg}
+use lib.IntN.{ℤ, pos, _+ℤ_}
+use lib.Signed.{shrZ}
 use lib.Dec.{lit<}
 use mir.Syntax.{w64}
 use mir.Val.{SFits}
 use borrow.Author.Needs.{needs}
 use Rattle.arith.specs.Size.{Bound, fits, sizes}
-use Rattle.arith.specs.Rounding.{rounded, nearest-shift}
+use Rattle.arith.specs.Rounding.{rounded, rounded-shift}
 use Rattle.gather_round.proofs.rounded.Statement.{statement}
 use Rattle.gather_round.proofs.rounded.Tie as tie
 
 abbrev limit : ℕ
 limit = 1152921504606846976
 
-sign-shift : (z : ℤ) → Bound z limit → shrZ z 9223372036854775808 ≡ negℤ (cond (nonNeg z) (pos 0) (pos 1))
-sign-shift (pos a) h = ap pos (omega (arith, h .size))
-sign-shift (negsuc a) h = ap negsuc (omega (arith, h .size))
-
 shifted : (z : ℤ) → Bound z limit → shrZ (z +ℤ pos 8589934592 +ℤ shrZ z 9223372036854775808) 17179869184 ≡ rounded z (2 ^ 34)
-shifted z h =
-    ap (λ s. shrZ (z +ℤ pos 8589934592 +ℤ s) 17179869184) (sign-shift z h)
-    ∙ sym (nearest-shift z 8589934592 (lit< tt))
+shifted z h = rounded-shift z 8589934592 (lit< tt) h
 
 record Fit (z : ℤ) : Type 0 where
   half : SFits w64 (z +ℤ pos 8589934592)

@@ -1,4 +1,4 @@
--- `gondwize_run` meets its contract, which is that of `run_told`: gravity comes through unchanged. Assumes nothing.
+-- `gondwize_run` meets its contract, which is that of `run_told`: the numbers come through unchanged. Assumes nothing.
 use borrow.Author.Needs.{needs}
 use mir.Facts.{toZ-ofZ}
 use Rattle.gondwize.proofs.gondwize_run.Statement.{statement}

@@ -1,13 +1,24 @@
--- `gondwize_update` meets its contract, which is that of the operation: gravity comes through unchanged. Assumes nothing.
+-- `gondwize_update` meets its contract, which is that of the operation: the numbers come through unchanged. Assumes nothing.
 use borrow.Author.Needs.{needs}
 use mathlib.Core.Path.{ap}
 use denote.Ref.{now}
 use mir.Facts.{toZ-ofZ}
+use Rattle.settings.specs.Settings.{settingsWith}
 use Rattle.update.specs.Update.{toldUpdate, updateAnswer}
 use Rattle.coding.proofs.Coding.{place-of, tells-done, tells-refused}
 use Rattle.coding.proofs.Places as places
 use Rattle.gondwize.proofs.gondwize_update.Statement.{statement}
 use Rattle.gondwize.proofs.gondwize_update.Tie as tie
+
+-- back to the settings, and to the start
+abbrev numbered : tie.After-update → tie.After-of-numbers
+numbered u = u .before .before .before
+
+abbrev begun : tie.After-of-numbers → tie.Start
+begun o = o .before .before
+
+of-numbers-requires : tie.Need-of-numbers-requires
+of-numbers-requires c κs = search needs
 
 update-requires : tie.Need-update-requires
 update-requires c κs = search needs
@@ -17,12 +28,13 @@ enum-known-refusal c = search needs
 
 code-requires : tie.Need-code-requires
 code-requires c κs =
-    let s = c .before .before .before .before .before .before .before .before .before in
-    let h = c .before .before .before .before .before .update .ensures in
-    let u = rw (toZ-ofZ (s .fits .gx), toZ-ofZ (s .fits .gy)) at h in
+    let r = c .before .before .before .before .before in
+    let s = begun (numbered r) in
+    let h = r .update .ensures in
+    let u = rw (numbered r .of-numbers .ensures, toZ-ofZ (s .fits .gx), toZ-ofZ (s .fits .gy)) at h in
     place-of (c .before .refusal .given .0 .0) (u .answer) (ap toldUpdate (c .before .refusal .given .1))
-    (places.told (updateAnswer (s .args .nx) (s .args .ny) (s .args .gx) (s .args .gy) (now (s .args .mass)) (now (s .args .px)) (now (s .args .py)))
-    (places.update (s .args .nx) (s .args .ny) (s .args .gx) (s .args .gy) (now (s .args .mass)) (now (s .args .px)) (now (s .args .py))))
+    (places.told (updateAnswer (settingsWith (s .args .nx) (s .args .ny) (s .args .gx) (s .args .gy) (s .args .kind) (s .args .width) (s .args .drag)) (now (s .args .mass)) (now (s .args .px)) (now (s .args .py)))
+    (places.update (settingsWith (s .args .nx) (s .args .ny) (s .args .gx) (s .args .gy) (s .args .kind) (s .args .width) (s .args .drag)) (now (s .args .mass)) (now (s .args .px)) (now (s .args .py))))
 
 enum-told : tie.Need-enum-told
 enum-told c = search needs
@@ -35,9 +47,10 @@ same-length-2 c = search needs
 
 returns : tie.Need-returns
 returns c =
-    let s = c .before .before .before .before .before .before .before .before .before .before in
-    let h = c .before .before .before .before .before .before .update .ensures in
-    let u = rw (toZ-ofZ (s .fits .gx), toZ-ofZ (s .fits .gy)) at h in
+    let r = c .before .before .before .before .before .before in
+    let s = begun (numbered r) in
+    let h = r .update .ensures in
+    let u = rw (numbered r .of-numbers .ensures, toZ-ofZ (s .fits .gx), toZ-ofZ (s .fits .gy)) at h in
     tells-refused u (c .before .before .refusal .given .0 .0) (ap toldUpdate (c .before .before .refusal .given .1)) (c .code .ensures)
 
 same-length-3 : tie.Need-same-length-3
@@ -48,15 +61,17 @@ same-length-4 c = search needs
 
 returns-2 : tie.Need-returns-2
 returns-2 c =
-    let s = c .before .before .before .before .before .before .before .before in
-    let h = c .before .before .before .before .update .ensures in
-    let u = rw (toZ-ofZ (s .fits .gx), toZ-ofZ (s .fits .gy)) at h in
+    let r = c .before .before .before .before in
+    let s = begun (numbered r) in
+    let h = r .update .ensures in
+    let u = rw (numbered r .of-numbers .ensures, toZ-ofZ (s .fits .gx), toZ-ofZ (s .fits .gy)) at h in
     tells-done u (ap toldUpdate (c .enum-told .given .1))
 
 pub gondwize-update-spec : {M : Type 1} → statement M
 gondwize-update-spec =
     tie.close
     (tie.spec
+    of-numbers-requires
     update-requires
     enum-known-refusal
     code-requires

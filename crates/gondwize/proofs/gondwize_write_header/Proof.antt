@@ -28,7 +28,7 @@ code-requires c κs =
     let w = rw (toZ-ofZ (s .fits .gx), toZ-ofZ (s .fits .gy)) at h in
     let a = s .args in
     place-of (c .before .refusal .given .0 .0) (e .0 ∙ w .answer bytes) (ap toldWritten (c .before .refusal .given .1))
-    (places.header-written (headerWith (a .nx) (a .ny) (a .gx) (a .gy) (a .count) (a .steps)) bytes)
+    (places.header-written (headerWith (a .nx) (a .ny) (a .gx) (a .gy) (a .count) (a .steps) (a .kind) (a .width) (a .drag)) bytes)
 
 enum-told : tie.Need-enum-told
 enum-told c = search needs

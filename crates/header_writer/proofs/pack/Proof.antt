@@ -7,7 +7,7 @@ use Rattle.apic.specs.Limits.{SizeLimits}
 use Rattle.bits.proofs.TwosComplement.{residue-asks, residue-is}
 use Rattle.particles.proofs.Checks.{size-limits}
 use Rattle.bath_file.specs.declared.Header.{Header}
-use Rattle.bath_file.proofs.Checks.{Valid, valid}
+use Rattle.bath_file.proofs.Checks.{Valid, EdgeLimits, edge-limits, valid}
 use Rattle.bath_file.proofs.Fields.{Typed, typed}
 use Rattle.header_writer.proofs.Parts.{header-of-parts}
 use Rattle.header_writer.proofs.pack.Statement.{statement}
@@ -30,6 +30,9 @@ accepted c = valid (header c) (result (header c)) (start c .pre .0) .0
 sizes : (c : tie.After-struct-told) → SizeLimits (header c .nx) (header c .ny)
 sizes c = size-limits (header c .nx) (header c .ny) (accepted c .size)
 
+edges : (c : tie.After-struct-told) → EdgeLimits (header c .kind) (header c .width)
+edges c = edge-limits (header c .kind) (header c .width) (accepted c .edge)
+
 -- ---- back to there
 
 abbrev from-gy : tie.After-struct-told2 → tie.After-struct-told
@@ -41,8 +44,11 @@ parts c = c .before .before
 abbrev known : tie.After-residue2 → tie.After-struct-told
 known c = parts c .before
 
-abbrev cast : tie.After-struct-known4 → tie.After-residue2
-cast c = c .before .before .before .before
+abbrev sized : tie.After-struct-known3 → tie.After-residue2
+sized c = c .before .before .before
+
+abbrev cast : tie.After-struct-known7 → tie.After-residue2
+cast c = sized (c .before .before .before .before)
 
 residue-requires : tie.Need-residue-requires
 residue-requires c κs = residue-asks 16384 (header c .gx) (is c .gx) (omega (arith, accepted c .gx-to)) (lit≤ tt)
@@ -57,17 +63,27 @@ cast-put-2 : tie.Need-cast-put-2
 cast-put-2 c = record { fits = omega (arith, sizes (known (c .before .before)) .y-most) }
 
 cast-put-3 : tie.Need-cast-put-3
-cast-put-3 c = record { fits = omega (arith, accepted (known (c .before .before .before)) .count-to) }
+cast-put-3 c = record { fits = omega (arith, accepted (known (sized c)) .count-to) }
 
 cast-put-4 : tie.Need-cast-put-4
-cast-put-4 c = record { fits = omega (arith, accepted (known (cast c)) .steps-to) }
+cast-put-4 c = record { fits = omega (arith, accepted (known (sized (c .before))) .steps-to) }
+
+cast-put-5 : tie.Need-cast-put-5
+cast-put-5 c = record { fits = omega (arith, edges (known (sized (c .before .before))) .kind-to) }
+
+cast-put-6 : tie.Need-cast-put-6
+cast-put-6 c = record { fits = omega (arith, edges (known (sized (c .before .before .before))) .width-to) }
+
+cast-put-7 : tie.Need-cast-put-7
+cast-put-7 c = record { fits = omega (arith, accepted (known (cast c)) .drag-to) }
 
 put-requires : tie.Need-put-requires
 put-requires c κs =
     let d = cast (c .before) in
     let v = accepted (known d) in
     let s = sizes (known d) in
-    ((omega (arith, s .x-most), (omega (arith, s .y-most), (parts d .residue .ensures .1, (d .residue2 .ensures .1, (omega (arith, v .count-to), (omega (arith, v .steps-to), (omega arith, tt))))))), start (known d) .pre .1)
+    let e = edges (known d) in
+    ((omega (arith, s .x-most), (omega (arith, s .y-most), (parts d .residue .ensures .1, (d .residue2 .ensures .1, (omega (arith, v .count-to), (omega (arith, v .steps-to), (omega arith, (omega (arith, e .kind-to), (omega (arith, e .width-to), (omega (arith, v .drag-to), (omega arith, tt))))))))))), start (known d) .pre .1)
 
 same-length : tie.Need-same-length
 same-length c = search needs
@@ -92,6 +108,9 @@ pack-spec =
     cast-put-2
     cast-put-3
     cast-put-4
+    cast-put-5
+    cast-put-6
+    cast-put-7
     put-requires
     same-length
     returns)

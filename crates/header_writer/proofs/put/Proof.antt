@@ -1,11 +1,7 @@
--- `put` meets its contract: the word and the byte are the high and the low bits of the header's number, and their bytes are the header.
--- Assumes nothing.
+-- `put` meets its contract: its two words are the header. Assumes nothing.
 use borrow.Author.Needs.{needs}
-use mathlib.Core.Path.{ap, ap₂, _∙_}
 use denote.Ref.{now}
-use lib.ListN.{set}
-use Rattle.bits.specs.Internal.{wordBytes, stored}
-use Rattle.header_writer.proofs.Words.{number, first-word, last-byte, word-and-byte}
+use Rattle.header_writer.proofs.Words.{both-words}
 use Rattle.header_writer.proofs.put.Statement.{statement}
 use Rattle.header_writer.proofs.put.Tie as tie
 
@@ -42,30 +38,52 @@ cast-first c = search needs
 add-first-5 : tie.Need-add-first-5
 add-first-5 c = search needs
 
+cast-second : tie.Need-cast-second
+cast-second c = search needs
+
+mul-second : tie.Need-mul-second
+mul-second c = search needs
+
+mul-second-2 : tie.Need-mul-second-2
+mul-second-2 c = search needs
+
+add-second : tie.Need-add-second
+add-second c = search needs
+
+mul-second-3 : tie.Need-mul-second-3
+mul-second-3 c = search needs
+
+add-second-2 : tie.Need-add-second-2
+add-second-2 c = search needs
+
+mul-second-4 : tie.Need-mul-second-4
+mul-second-4 c = search needs
+
+add-second-3 : tie.Need-add-second-3
+add-second-3 c = search needs
+
 put-word-requires : tie.Need-put-word-requires
 put-word-requires c κs = search needs
 
-mul-bytes : tie.Need-mul-bytes
-mul-bytes c = search needs
-
-cast-bytes : tie.Need-cast-bytes
-cast-bytes c = search needs
-
-slice-write-bytes : tie.Need-slice-write-bytes
-slice-write-bytes c = search needs
+put-word-requires-2 : tie.Need-put-word-requires-2
+put-word-requires-2 c κs = search needs
 
 same-length : tie.Need-same-length
 same-length c = search needs
 
+-- back to the second word, stored first, and to the start
+abbrev half : tie.After-put-word2 → tie.After-put-word
+half c = c .before .before .before .before
+
+abbrev begun : tie.After-put-word → tie.Start
+begun c = c .before .before .before
+
 returns : tie.Need-returns
 returns c =
-    let a = c .before .before .before .before .before .args in
-    let below = c .before .before .before .before .before .pre .0 in
-    ap₂ (λ l v. set l 8 v)
-    (c .before .before .put-word .ensures
-    ∙ ap (λ v. stored (wordBytes v) (now (a .bytes)) 0) (first-word (a .nx) (a .ny) (a .gx) (a .gy) (a .count) (a .steps) below))
-    (last-byte (a .nx) (a .ny) (a .gx) (a .gy) (a .count) (a .steps) below)
-    ∙ word-and-byte (number (a .nx) (a .ny) (a .gx) (a .gy) (a .count) (a .steps) below) (now (a .bytes)) (c .before .before .before .before .before .pre .1)
+    let both = c .before .before in
+    let s = begun (half both) in
+    let a = s .args in
+    both-words (a .nx) (a .ny) (a .gx) (a .gy) (a .count) (a .steps) (a .kind) (a .width) (a .drag) (s .pre .0) (now (a .bytes)) (s .pre .1) (half both .put-word .ensures) (both .put-word2 .ensures)
 
 pub put-spec : {M : Type 1} → statement M
 put-spec =
@@ -82,9 +100,15 @@ put-spec =
     add-first-4
     cast-first
     add-first-5
+    cast-second
+    mul-second
+    mul-second-2
+    add-second
+    mul-second-3
+    add-second-2
+    mul-second-4
+    add-second-3
     put-word-requires
-    mul-bytes
-    cast-bytes
-    slice-write-bytes
+    put-word-requires-2
     same-length
     returns)

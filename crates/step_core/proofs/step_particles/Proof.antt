@@ -7,7 +7,7 @@ use Rattle.step_core.proofs.step_particles.Tie as tie
 
 -- back to the scatter, and to the start
 abbrev scattered : tie.After-update-all → tie.After-scatter-all
-scattered u = u .before .before .before .before .before .before .before .before .before .before
+scattered u = u .before .before .before .before .before .before .before .before
 
 abbrev begun : tie.After-scatter-all → tie.Start
 begun g = g .before .before .before .before .before
@@ -15,12 +15,9 @@ begun g = g .before .before .before .before .before
 scatter-all-requires : tie.Need-scatter-all-requires
 scatter-all-requires c κs = scatter-ready (c .before .before .before .before .pre)
 
-mul-update-all : tie.Need-mul-update-all
-mul-update-all c = search needs
-
 update-all-requires : tie.Need-update-all-requires
 update-all-requires c κs =
-    let g = c .before .before .before .before .before .before .before .before .before in
+    let g = c .before .before .before .before .before .before .before in
     update-ready (begun g .pre) (g .scatter-all .ensures)
 
 gather-from-requires : tie.Need-gather-from-requires
@@ -52,7 +49,6 @@ step-particles-spec =
     tie.close
     (tie.spec
     scatter-all-requires
-    mul-update-all
     update-all-requires
     gather-from-requires
     same-length

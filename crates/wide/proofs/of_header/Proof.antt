@@ -37,9 +37,18 @@ cast-t6 c = search needs
 cast-t7 : tie.Need-cast-t7
 cast-t7 c = search needs
 
+cast-t8 : tie.Need-cast-t8
+cast-t8 c = search needs
+
+cast-t9 : tie.Need-cast-t9
+cast-t9 c = search needs
+
+cast-t10 : tie.Need-cast-t10
+cast-t10 c = search needs
+
 returns : tie.Need-returns
 returns c =
-    let d = from-gy (c .before .before) in
+    let d = from-gy (c .before .before .before .before .before) in
     let h = start d .args .h in
     let small = start d .pre in
     λ i.
@@ -49,7 +58,10 @@ returns c =
     ∷ widened w16 w64 tt (h .gy) (is d .gy) i
     ∷ toZ-pos w64 {n = h .count} (omega (arith, small .count)) i
     ∷ toZ-pos w64 {n = h .steps} (omega (arith, small .steps)) i
+    ∷ toZ-pos w64 {n = h .kind} (omega (arith, small .kind)) i
+    ∷ toZ-pos w64 {n = h .width} (omega (arith, small .width)) i
+    ∷ toZ-pos w64 {n = h .drag} (omega (arith, small .drag)) i
     ∷ []
 
 pub of-header-spec : {M : Type 1} → statement M
-of-header-spec = tie.close (tie.spec cast-t2 cast-t3 cast-t4 cast-t5 cast-t6 cast-t7 returns)
+of-header-spec = tie.close (tie.spec cast-t2 cast-t3 cast-t4 cast-t5 cast-t6 cast-t7 cast-t8 cast-t9 cast-t10 returns)

@@ -4,7 +4,7 @@ use compare::inputs::{self, Call};
 use compare::stream;
 use reference::generator::Generator;
 use reference::particle_set::pack_records;
-use reference::{Grid, Header, Particle, Settings, Size};
+use reference::{Edge, Grid, Header, Particle, Settings, Size};
 use vectors::{Buffers, Operation};
 
 use super::table;
@@ -46,6 +46,11 @@ impl Bath {
         other
     }
 
+    /// The bath with a sticky edge and drag.
+    fn hindered(&self) -> Bath {
+        self.with(|bath| bath.settings = bath.settings.with_edge(Edge::sticky(1)).with_drag(9))
+    }
+
     /// The bath, and others of which one thing is strained or broken, at the last place where it can be.
     fn variants(&self) -> Vec<Bath> {
         let last = |change: fn(&mut Particle)| {
@@ -56,7 +61,14 @@ impl Bath {
             self.with(|bath| bath.settings.gx = 4096),
             self.with(|bath| bath.particles.iter_mut().for_each(|p| p.bxy = 2047)),
             self.with(|bath| bath.particles.iter_mut().for_each(|p| p.vy = -63)),
+            self.with(|bath| bath.settings.edge = Edge::sticky(3)),
+            self.with(|bath| bath.settings.edge = Edge::slip(2)),
+            self.with(|bath| bath.settings.drag = 255),
+            self.hindered(),
             self.with(|bath| bath.settings.gy = -4097),
+            self.with(|bath| bath.settings.edge = Edge::new(3, 1)),
+            self.with(|bath| bath.settings.edge = Edge::slip(0)),
+            self.with(|bath| bath.settings.drag = 256),
             self.with(|bath| bath.settings.size.nx = 3),
             self.with(|bath| bath.settings.size.ny = 49),
             self.with(|bath| bath.more = 1),
@@ -161,11 +173,15 @@ pub fn all(mut each: impl FnMut(Operation, Buffers)) {
     }
 }
 
-/// Files for the program, with their columns: a refused one, and those of every size.
+/// Files for the program, with their columns: a refused one, and those of every size, each with open
+/// edges and with a sticky edge and drag.
 pub fn files() -> Vec<(usize, Vec<u8>)> {
     let refused = Bath::new(1, 48)
         .with(|bath| bath.settings.size.nx = 3)
         .file();
-    let sizes = table::MOST.map(|count| (table::column(count), Bath::new(count, 48).file()));
-    [&[(0, refused)], &sizes[..]].concat()
+    let sizes = table::MOST.into_iter().flat_map(|count| {
+        let bath = Bath::new(count, 48);
+        [bath.hindered(), bath].map(|bath| (table::column(count), bath.file()))
+    });
+    [(0, refused)].into_iter().chain(sizes).collect()
 }

@@ -1,9 +1,10 @@
 //! Read a file, write a header, the program.
 
 use reference::particle_set::pack_records;
-use reference::{Header, Particle, Settings, Size};
+use reference::{Edge, Header, Particle, Settings, Size};
 
-use super::{accepted_sets, bytes, case, copies, lone, refused_sets, REFUSED_SIZES, SMALL};
+use super::{accepted_sets, broken, bytes, case, copies, edge_name, lone, refused_sets};
+use super::{REFUSED_DRAGS, REFUSED_EDGES, REFUSED_SIZES, SMALL};
 use crate::{Buffers, Case, Operation};
 
 pub fn cases() -> Vec<Case> {
@@ -33,6 +34,14 @@ fn with_gravity(gx: i128, gy: i128) -> Header {
     }
 }
 
+fn with_edge(edge: Edge, drag: i128) -> Header {
+    let settings = Settings::new(Size::new(4, 5), 3, -7);
+    Header {
+        settings: settings.with_edge(edge).with_drag(drag),
+        ..header(SMALL, 0, 9)
+    }
+}
+
 /// A header with spare bits, and records.
 fn file(header: Header, spare: i128, records: &[u8]) -> Buffers {
     bytes([&header.pack(spare)[..], records].concat())
@@ -50,7 +59,7 @@ fn read(name: &str, file: Buffers, stated: Option<(u32, usize)>) -> Case {
 fn read_refusals() -> Vec<Case> {
     let one = lone(1).pack();
     let two = pack_records(&copies(2, lone(0)));
-    let mut cases: Vec<Case> = [0, 1, 8]
+    let mut cases: Vec<Case> = [0, 1, 8, 9, 10]
         .map(|length| {
             read(
                 &format!("length-{length}-alone"),
@@ -60,14 +69,17 @@ fn read_refusals() -> Vec<Case> {
         })
         .into();
     for (name, size) in &REFUSED_SIZES[..5] {
-        let mut broken = header(*size, 8191, 16_383);
+        let mut broken = Header {
+            settings: broken(*size),
+            ..header(*size, 8191, 16_383)
+        };
         broken.settings.gx = 8191;
-        cases.push(read(name, file(broken, 31, &[]), Some((2, 0))));
+        cases.push(read(name, file(broken, 511, &[]), Some((2, 0))));
     }
     for (gx, gy) in [(4097, 0), (-4097, 0), (0, 4097), (0, -4097), (-8192, 8191)] {
         let broken = Header {
-            count: 4097,
-            ..with_gravity(gx, gy)
+            settings: with_gravity(gx, gy).settings.with_edge(Edge::new(0, 1)),
+            ..header(SMALL, 4097, 0)
         };
         cases.push(read(
             &format!("gx-{gx}-gy-{gy}"),
@@ -75,6 +87,7 @@ fn read_refusals() -> Vec<Case> {
             Some((10, 0)),
         ));
     }
+    cases.extend(read_refused_edges());
     let count = header(SMALL, 4097, 10_001);
     let steps = header(SMALL, 2, 10_001);
     cases.extend([
@@ -100,7 +113,7 @@ fn read_refusals() -> Vec<Case> {
             Some((17, 0)),
         ),
     ]);
-    for spare in [1, 2, 4, 8, 16, 31] {
+    for spare in [1, 2, 4, 8, 15, 16, 32, 64, 128, 256, 511] {
         let name = format!("spare-{spare}");
         cases.push(read(
             &name,
@@ -156,6 +169,28 @@ fn read_refusals() -> Vec<Case> {
     cases
 }
 
+/// What the four bits of kind and width can hold beside edges, alone and before all that comes later.
+fn read_refused_edges() -> Vec<Case> {
+    let mut cases = Vec::new();
+    for (kind, width) in (0..4).flat_map(|kind| (0..4).map(move |width| (kind, width))) {
+        let edge = Edge::new(kind, width);
+        if Edge::ALL.contains(&edge) {
+            continue;
+        }
+        let alone = with_edge(edge, 0);
+        let broken = Header {
+            count: 4097,
+            steps: 10_001,
+            ..with_edge(edge, 255)
+        };
+        let name = format!("kind-{kind}-width-{width}");
+        cases.push(read(&name, file(alone, 0, &[]), Some((18, 0))));
+        let name = format!("{name}-before-the-rest");
+        cases.push(read(&name, file(broken, 511, &[]), Some((18, 0))));
+    }
+    cases
+}
+
 fn read_cases() -> Vec<Case> {
     let mut cases: Vec<Case> = accepted_sets()
         .into_iter()
@@ -190,13 +225,29 @@ fn read_cases() -> Vec<Case> {
         ),
         read("gravity-1-and--1", file(with_gravity(1, -1), 0, &[]), None),
     ]);
+    cases.extend(edges_and_drags().into_iter().map(|(name, header)| {
+        let file = file(header, 0, &[]);
+        read(&name, file, None)
+    }));
     cases
 }
 
-/// Document 01's printed example.
-const PRINTED: [u8; 23] = [
-    0x10, 0x40, 0x00, 0x00, 0x00, 0x00, 0x08, 0x00, 0x20, 0x00, 0x07, 0x00, 0x81, 0x00, 0x10, 0x01,
-    0xFE, 0x00, 0x00, 0x00, 0x00, 0x00, 0x00,
+/// Headers with every edge, and drags at their ends and one bit each.
+fn edges_and_drags() -> Vec<(String, Header)> {
+    let mut headers = Vec::new();
+    for edge in Edge::ALL {
+        for drag in [0, 1, 2, 4, 8, 16, 32, 64, 128, 254, 255] {
+            let name = format!("{}-drag-{drag}", edge_name(edge));
+            headers.push((name, with_edge(edge, drag)));
+        }
+    }
+    headers
+}
+
+/// The printed example.
+const PRINTED: [u8; 25] = [
+    0x10, 0x40, 0x00, 0x00, 0x00, 0x00, 0x08, 0x00, 0x20, 0x00, 0x00, 0x00, 0x07, 0x00, 0x81, 0x00,
+    0x10, 0x01, 0xFE, 0x00, 0x00, 0x00, 0x00, 0x00, 0x00,
 ];
 
 fn header_cases() -> Vec<Case> {
@@ -206,20 +257,29 @@ fn header_cases() -> Vec<Case> {
         case(
             format!("write-header/{name}"),
             operation,
-            bytes([0xA5; 9]),
+            bytes([0xA5; 11]),
             stated,
         )
     };
     let broken = Header {
-        settings: Settings::new(Size::new(4, 49), 4097, 0),
+        settings: broken(Size::new(4, 49)),
         ..header(SMALL, 4097, 10_001)
     };
-    let gravity = Header {
-        settings: Settings::new(SMALL, 0, -4097),
-        ..broken
+    let with_count = |count: i128, header: Header| Header {
+        count,
+        steps: 10_001,
+        ..header
     };
+    let mut gravity = broken;
+    gravity.settings.size = SMALL;
+    let edge = with_count(4097, with_edge(Edge::new(3, 3), 256));
+    let drag = with_count(4097, with_edge(Edge::slip(3), 256));
+    let count = with_count(4097, with_edge(Edge::slip(3), 255));
+    let steps = with_count(4096, with_edge(Edge::slip(3), 255));
     let largest = Header {
-        settings: Settings::new(Size::new(48, 48), 4096, 4096),
+        settings: Settings::new(Size::new(48, 48), 4096, 4096)
+            .with_edge(Edge::slip(3))
+            .with_drag(255),
         ..header(SMALL, 4096, 10_000)
     };
     let mut cases = vec![
@@ -233,11 +293,23 @@ fn header_cases() -> Vec<Case> {
         ),
         write("largest", largest, 0),
         write("2-before-the-rest", broken, 2),
-        write("10-before-3-and-17", gravity, 10),
-        write("3-before-17", header(SMALL, 4097, 10_001), 3),
-        write("17", header(SMALL, 4096, 10_001), 17),
+        write("10-before-the-rest", gravity, 10),
+        write("18-before-the-rest", edge, 18),
+        write("19-before-3-and-17", drag, 19),
+        write("3-before-17", count, 3),
+        write("17", steps, 17),
     ];
-    for length in [0, 8, 10] {
+    for (name, header) in edges_and_drags() {
+        cases.push(write(&name, header, 0));
+    }
+    for (name, edge) in REFUSED_EDGES {
+        cases.push(write(name, with_edge(edge, 0), 18));
+    }
+    for number in REFUSED_DRAGS {
+        let header = with_edge(Edge::sticky(1), number);
+        cases.push(write(&format!("drag-{number}"), header, 19));
+    }
+    for length in [0, 8, 9, 10, 12] {
         let name = format!("write-header/length-{length}");
         let buffers = bytes(vec![0xA5; length]);
         cases.push(case(
@@ -258,6 +330,13 @@ fn program_cases() -> Vec<Case> {
     let one = |steps: i128, particle: Particle| file(header(SMALL, 1, steps), 0, &particle.pack());
     let gliding = Particle::at_rest(40, 3, 100, 100).moving(-7, 0);
     let leaving = Particle::at_rest(40, 3, 90, 100).moving(-63, 0);
+    let with = |edge: Edge, drag: i128| {
+        let header = Header {
+            count: 1,
+            ..with_edge(edge, drag)
+        };
+        file(header, 0, &gliding.pack())
+    };
     let massless = Particle { mass: 0, ..lone(2) };
     let refused = pack_records(&[lone(1), massless]);
     vec![
@@ -273,5 +352,11 @@ fn program_cases() -> Vec<Case> {
         program("refused-record", file(header(SMALL, 2, 1), 0, &refused)),
         program("stopped", one(100, gliding.with_b([1, -2, 3, -4]))),
         program("stopped-at-once", one(100, leaving)),
+        program("sticky", with(Edge::sticky(1), 0)),
+        program("slip-with-drag", with(Edge::slip(2), 30)),
+        program("drag", with(Edge::OPEN, 90)),
+        program("refused-edge", with(Edge::new(3, 1), 0)),
+        program("ten-bytes", bytes(&PRINTED[..10])),
+        program("header-alone", bytes(&PRINTED[..11])),
     ]
 }

@@ -7,7 +7,7 @@ mod simulation;
 mod transfers;
 
 use reference::particle_set::pack_records;
-use reference::{Grid, Particle, Refusal, Size};
+use reference::{Edge, Grid, Particle, Refusal, Settings, Size};
 
 use crate::{perform, Buffers, Case, Operation};
 
@@ -212,6 +212,87 @@ const REFUSED_SIZES: [(&str, Size); 6] = [
     ("nx-0", Size { nx: 0, ny: 0 }),
     ("nx-255", Size { nx: 255, ny: 255 }),
 ];
+
+/// Edges that are refused: kinds that there are not, widths that their kinds do not have, and numbers
+/// that a narrower type cuts to an edge.
+const REFUSED_EDGES: [(&str, Edge); 15] = [
+    ("kind-3-width-0", Edge::new(3, 0)),
+    ("kind-3-width-3", Edge::new(3, 3)),
+    ("kind-4", Edge::new(4, 0)),
+    ("kind-257", Edge::new(257, 1)),
+    ("kind-2^32", Edge::new(1 << 32, 0)),
+    ("kind-2^64-1", Edge::new(u64::MAX as i128, 2)),
+    ("open-width-1", Edge::new(0, 1)),
+    ("open-width-4", Edge::new(0, 4)),
+    ("open-width-2^32", Edge::new(0, 1 << 32)),
+    ("sticky-width-0", Edge::sticky(0)),
+    ("sticky-width-4", Edge::sticky(4)),
+    ("sticky-width-2^32+1", Edge::sticky((1 << 32) + 1)),
+    ("slip-width-0", Edge::slip(0)),
+    ("slip-width-4", Edge::slip(4)),
+    ("slip-width-257", Edge::slip(257)),
+];
+
+/// Drags that are refused.
+const REFUSED_DRAGS: [i128; 6] = [256, 257, 65_536, 1 << 32, (1 << 32) + 1, u64::MAX as i128];
+
+/// An accepted edge in words.
+fn edge_name(edge: Edge) -> String {
+    match edge {
+        Edge::OPEN => "open".to_string(),
+        Edge { kind: 1, width } => format!("sticky-{width}"),
+        Edge { width, .. } => format!("slip-{width}"),
+    }
+}
+
+/// Settings of which all but the size is refused.
+fn broken(size: Size) -> Settings {
+    Settings::new(size, 4097, -9)
+        .with_edge(Edge::new(3, 1))
+        .with_drag(256)
+}
+
+/// Gravity, edges and drags that are refused on 4 by 4 nodes, each with those that are looked at later
+/// broken too.
+fn refused_forcings() -> Vec<(String, Settings, (u32, usize))> {
+    let mut refused = Vec::new();
+    for (gx, gy) in [(4097, 0), (-4097, 0), (0, 4097), (0, -4097)] {
+        let settings = Settings {
+            gx,
+            gy,
+            ..broken(SMALL)
+        };
+        refused.push((format!("gx-{gx}-gy-{gy}"), settings, (10, 0)));
+    }
+    let accepted = Settings::new(SMALL, 4096, -4096);
+    for (name, edge) in REFUSED_EDGES {
+        let settings = accepted.with_edge(edge).with_drag(256);
+        refused.push((name.to_string(), settings, (18, 0)));
+    }
+    for drag in REFUSED_DRAGS {
+        let settings = accepted.with_edge(Edge::slip(3)).with_drag(drag);
+        refused.push((format!("drag-{drag}"), settings, (19, 0)));
+    }
+    refused
+}
+
+/// Particles so far from the four corners of a grid on both axes.
+fn corners(size: Size, inside: i128) -> Vec<u8> {
+    let low = 32 + inside;
+    let high = |nodes: i128| 64 * (nodes - 1) - 33 - inside;
+    let (right, top) = (high(size.nx), high(size.ny));
+    let at = |identifier, x, y| {
+        Particle::at_rest(identifier, 3, x, y)
+            .moving(2, -1)
+            .with_b([9, -8, 7, -6])
+    };
+    pack_records(&[
+        at(1, low, low),
+        at(2, right, low),
+        at(3, low, top),
+        at(4, right, top),
+    ])
+}
 
 /// Changes one buffer of a grid.
 type GridChange = (&'static str, fn(&mut Grid));

@@ -1,9 +1,10 @@
 //! Step, run, and lists of both.
 
 use reference::particle_set::pack_records;
-use reference::{Grid, Particle, Settings, Size};
+use reference::{Edge, Grid, Particle, Settings, Size};
 
-use super::{case, copies, heaviest, lone, refused_sets, used_grid, with_grid};
+use super::{broken, case, copies, corners, edge_name, heaviest, lone};
+use super::{refused_forcings, refused_sets, used_grid, with_grid};
 use super::{REFUSED_GRIDS, REFUSED_SIZES, SMALL};
 use crate::{Buffers, Case, Operation};
 
@@ -13,11 +14,14 @@ pub fn cases() -> Vec<Case> {
     [
         entry_refusals("step", step),
         step_cases(),
+        step_edges_and_drags(),
         entry_refusals("run", run),
         run_refusals(),
         examples(),
+        run_edges_and_drags(),
         drifting_list(),
         spreading_list(),
+        held_list(),
     ]
     .concat()
 }
@@ -28,7 +32,7 @@ const MIDDLE: Size = Size { nx: 8, ny: 8 };
 fn entry_refusals(name: &str, operation: fn(Settings) -> Operation) -> Vec<Case> {
     let mut cases = Vec::new();
     for (size_name, size) in REFUSED_SIZES {
-        let operation = operation(Settings::new(size, 4097, 0));
+        let operation = operation(broken(size));
         let buffers = with_grid([0xA5; 13], SMALL);
         cases.push(case(
             format!("{name}/{size_name}"),
@@ -39,7 +43,7 @@ fn entry_refusals(name: &str, operation: fn(Settings) -> Operation) -> Vec<Case>
     }
     let massless = Particle { mass: 0, ..lone(0) }.pack();
     for (grid_name, change) in REFUSED_GRIDS {
-        let operation = operation(Settings::new(SMALL, 4097, 0));
+        let operation = operation(broken(SMALL));
         let mut buffers = with_grid(massless, SMALL);
         change(&mut buffers.grid);
         cases.push(case(
@@ -49,11 +53,10 @@ fn entry_refusals(name: &str, operation: fn(Settings) -> Operation) -> Vec<Case>
             Some((1, 0)),
         ));
     }
-    for (gx, gy) in [(4097, 0), (-4097, 0), (0, 4097), (0, -4097)] {
-        let operation = operation(Settings::new(SMALL, gx, gy));
+    for (what, settings, stated) in refused_forcings() {
         let buffers = with_grid(massless, SMALL);
-        let name = format!("{name}/gx-{gx}-gy-{gy}");
-        cases.push(case(name, operation, buffers, Some((10, 0))));
+        let name = format!("{name}/{what}");
+        cases.push(case(name, operation(settings), buffers, Some(stated)));
     }
     for (set_name, records, stated) in refused_sets() {
         let operation = operation(Settings::new(SMALL, 4096, -4096));
@@ -70,16 +73,24 @@ fn entry_refusals(name: &str, operation: fn(Settings) -> Operation) -> Vec<Case>
 
 fn run_refusals() -> Vec<Case> {
     let massless = Particle { mass: 0, ..lone(0) }.pack();
-    let run = |name: &str, gx: i128, steps: i128, number: u32| {
-        let operation = Operation::Run(Settings::new(SMALL, gx, 0), steps);
+    let still = Settings::new(SMALL, 0, 0);
+    let run = |name: &str, settings: Settings, steps: i128, number: u32| {
+        let operation = Operation::Run(settings, steps);
         let buffers = with_grid(massless, SMALL);
         case(format!("run/{name}"), operation, buffers, Some((number, 0)))
     };
+    let edge = still.with_edge(Edge::new(3, 0));
+    let drag = still.with_edge(Edge::sticky(2)).with_drag(256);
     vec![
-        run("steps-10001", 0, 10_001, 17),
-        run("steps-65535", 0, 65_535, 17),
-        run("10-before-17", 4097, 10_001, 10),
-        run("0-steps-of-a-refused-set", 0, 0, 4),
+        run("steps-10001", still, 10_001, 17),
+        run("steps-65535", still, 65_535, 17),
+        run("10-before-17", broken(SMALL), 10_001, 10),
+        run("18-before-17", edge, 10_001, 18),
+        run("19-before-17", drag, 10_001, 19),
+        run("17-before-the-set", drag.with_drag(255), 10_001, 17),
+        run("0-steps-of-a-refused-edge", edge, 0, 18),
+        run("0-steps-of-a-refused-drag", drag, 0, 19),
+        run("0-steps-of-a-refused-set", still, 0, 4),
     ]
 }
 
@@ -199,6 +210,55 @@ fn near_each_other() -> [Particle; 3] {
         Particle::at_rest(21, 311, 170, 260)
             .moving(1, 0)
             .with_b([7, 5, -3, -11]),
+    ]
+}
+
+/// A step with every edge, alone and with drag: particles that share nodes, and particles near the
+/// corners of the smallest grids.
+fn step_edges_and_drags() -> Vec<Case> {
+    let mut cases = Vec::new();
+    for edge in Edge::ALL {
+        for drag in [0, 1, 90, 255] {
+            for (nx, ny, records) in [
+                (8, 9, pack_records(&near_each_other())),
+                (4, 4, corners(SMALL, 5)),
+                (4, 5, corners(Size::new(4, 5), 5)),
+            ] {
+                let settings = Settings::new(Size::new(nx, ny), 70, -33);
+                let settings = settings.with_edge(edge).with_drag(drag);
+                let name = format!("step/{}-drag-{drag}-on-{nx}-by-{ny}", edge_name(edge));
+                let buffers = with_grid(records, settings.size);
+                cases.push(case(name, Operation::Step(settings), buffers, None));
+            }
+        }
+    }
+    cases
+}
+
+/// A particle that leaves with open edges, and what edges and drag make of it.
+fn run_edges_and_drags() -> Vec<Case> {
+    let gliding = Particle::at_rest(40, 3, 100, 230).moving(7, -2);
+    let run = |name: &str, edge: Edge, drag: i128, particles: &[Particle], stated| {
+        let settings = Settings::new(Size::new(9, 7), 0, 0);
+        let settings = settings.with_edge(edge).with_drag(drag);
+        let operation = Operation::Run(settings, 80);
+        let buffers = with_grid(pack_records(particles), settings.size);
+        case(format!("run/{name}"), operation, buffers, stated)
+    };
+    vec![
+        run("80-steps-open", Edge::OPEN, 0, &[gliding], Some((15, 0))),
+        run("80-steps-sticky-2", Edge::sticky(2), 0, &[gliding], None),
+        run("80-steps-sticky-3", Edge::sticky(3), 0, &[gliding], None),
+        run("80-steps-slip-2", Edge::slip(2), 0, &[gliding], None),
+        run("80-steps-drag-100", Edge::OPEN, 100, &[gliding], None),
+        run("80-steps-drag-255", Edge::OPEN, 255, &[gliding], None),
+        run(
+            "80-steps-of-three-slip-1-drag-4",
+            Edge::slip(1),
+            4,
+            &near_each_other(),
+            None,
+        ),
     ]
 }
 
@@ -362,4 +422,33 @@ fn spreading_list() -> Vec<Case> {
         run(settings(48, 48, 0, 0), 25, None),
     ];
     list("spreading", &near_each_other(), &calls)
+}
+
+/// Two particles between edges of every kind, refused ones too, until an open edge lets one leave.
+fn held_list() -> Vec<Case> {
+    let start = [
+        Particle::at_rest(7, 90, 120, 200)
+            .moving(-9, 4)
+            .with_b([12, -30, 40, 5]),
+        Particle::at_rest(9, 8, 260, 150).moving(11, 3),
+    ];
+    let settings = Settings::new(Size::new(7, 6), 5, -60);
+    let step = |s: Settings, stated| (Operation::Step(s), used_grid(s.size), stated);
+    let run = |s: Settings, steps, stated| (Operation::Run(s, steps), used_grid(s.size), stated);
+    let with = |edge, drag| settings.with_edge(edge).with_drag(drag);
+    let falling = Settings::new(settings.size, 5, -300);
+    let calls = [
+        run(with(Edge::sticky(2), 0), 12, None),
+        step(with(Edge::slip(1), 8), None),
+        step(with(Edge::new(3, 1), 8), Some((18, 0))),
+        run(with(Edge::new(0, 1), 256), 10_001, Some((18, 0))),
+        run(with(Edge::slip(3), 256), 10_001, Some((19, 0))),
+        run(with(Edge::slip(3), 255), 10_001, Some((17, 0))),
+        run(with(Edge::slip(3), 20), 40, None),
+        run(with(Edge::sticky(1), 1), 25, None),
+        step(with(Edge::OPEN, 255), None),
+        run(falling, 10_000, Some((15, 1))),
+        run(falling.with_edge(Edge::sticky(3)), 3, None),
+    ];
+    list("held", &start, &calls)
 }

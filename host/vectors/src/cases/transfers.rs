@@ -3,9 +3,10 @@
 use reference::limits::{D, MAX_B, MAX_VELOCITY};
 use reference::particle_set::pack_records;
 use reference::spline::axis_weight;
-use reference::{Grid, Particle, Settings, Size};
+use reference::{Edge, Grid, Particle, Settings, Size};
 
-use super::{accepted_sets, case, copies, heaviest, lone, refused_sets, used_grid, with_grid};
+use super::{accepted_sets, broken, case, copies, corners, edge_name, heaviest, lone};
+use super::{refused_forcings, refused_sets, used_grid, with_grid};
 use super::{REFUSED_GRIDS, REFUSED_SIZES, SMALL};
 use crate::{Buffers, Case, Operation};
 
@@ -17,6 +18,9 @@ pub fn cases() -> Vec<Case> {
         update_cases(),
         update_refused_nodes(),
         update_velocity_edges(),
+        update_drags(),
+        update_rims(),
+        update_refused_before_drag_and_rim(),
         gather_refusals(),
         gather_cases(),
         gather_b_cases(),
@@ -108,31 +112,15 @@ fn scatter_cases() -> Vec<Case> {
         scatter(
             "corners-of-4-by-6",
             Size::new(4, 6),
-            corners(Size::new(4, 6)),
+            corners(Size::new(4, 6), 0),
         ),
         scatter(
             "corners-of-48-by-4",
             Size::new(48, 4),
-            corners(Size::new(48, 4)),
+            corners(Size::new(48, 4), 0),
         ),
     ]);
     cases
-}
-
-/// Particles at the four corners of a grid.
-fn corners(size: Size) -> Vec<u8> {
-    let (right, top) = (64 * (size.nx - 1) - 33, 64 * (size.ny - 1) - 33);
-    let at = |identifier, x, y| {
-        Particle::at_rest(identifier, 3, x, y)
-            .moving(2, -1)
-            .with_b([9, -8, 7, -6])
-    };
-    pack_records(&[
-        at(1, 32, 32),
-        at(2, right, 32),
-        at(3, 32, top),
-        at(4, right, top),
-    ])
 }
 
 /// The particle whose share of one node's momentum is the largest (or smallest) that there is.
@@ -166,7 +154,7 @@ fn grid_alone(grid: Grid) -> Buffers {
 fn update_refusals() -> Vec<Case> {
     let mut cases = Vec::new();
     for (name, size) in REFUSED_SIZES {
-        let operation = Operation::Update(Settings::new(size, 4097, 0));
+        let operation = Operation::Update(broken(size));
         let buffers = grid_alone(used_grid(SMALL));
         cases.push(case(
             format!("update/{name}"),
@@ -178,7 +166,7 @@ fn update_refusals() -> Vec<Case> {
     for (name, change) in REFUSED_GRIDS {
         let mut buffers = grid_alone(used_grid(SMALL));
         change(&mut buffers.grid);
-        let operation = Operation::Update(settings(4097, 0));
+        let operation = Operation::Update(broken(SMALL));
         cases.push(case(
             format!("update/{name}"),
             operation,
@@ -186,12 +174,16 @@ fn update_refusals() -> Vec<Case> {
             Some((1, 0)),
         ));
     }
-    for (gx, gy) in [(4097, 0), (-4097, 0), (0, 4097), (0, -4097)] {
+    for (name, settings, stated) in refused_forcings() {
         let mut buffers = grid_alone(used_grid(SMALL));
         buffers.grid.mass[0] = u64::MAX;
-        let operation = Operation::Update(settings(gx, gy));
-        let name = format!("update/gx-{gx}-gy-{gy}");
-        cases.push(case(name, operation, buffers, Some((10, 0))));
+        let operation = Operation::Update(settings);
+        cases.push(case(
+            format!("update/{name}"),
+            operation,
+            buffers,
+            Some(stated),
+        ));
     }
     cases
 }
@@ -199,7 +191,17 @@ fn update_refusals() -> Vec<Case> {
 /// Update of a grid whose nodes from 2 on hold the given masses and momenta, the others zero.
 fn update_nodes(
     name: &str,
-    (gx, gy): (i128, i128),
+    gravity: (i128, i128),
+    nodes: &[(u64, i64, i64)],
+    stated: Option<(u32, usize)>,
+) -> Case {
+    update_nodes_with(name, settings(gravity.0, gravity.1), nodes, stated)
+}
+
+/// The same with these settings on 4 by 4 nodes.
+fn update_nodes_with(
+    name: &str,
+    settings: Settings,
     nodes: &[(u64, i64, i64)],
     stated: Option<(u32, usize)>,
 ) -> Case {
@@ -207,7 +209,7 @@ fn update_nodes(
     for (node, &(mass, x, y)) in nodes.iter().enumerate() {
         (grid.mass[2 + node], grid.x[2 + node], grid.y[2 + node]) = (mass, x, y);
     }
-    let operation = Operation::Update(settings(gx, gy));
+    let operation = Operation::Update(settings);
     case(
         format!("update/{name}"),
         operation,
@@ -307,6 +309,78 @@ fn update_velocity_edges() -> Vec<Case> {
                 ),
             ]);
         }
+    }
+    cases
+}
+
+/// Drags at their ends and about a half, on velocities at which one of them loses a half.
+fn update_drags() -> Vec<Case> {
+    let velocities = [
+        1, 2, 3, 5, 6, 64, 127, 128, 129, 130, 192, 384, 1001, 131_072,
+    ];
+    let nodes = velocities.map(|u| (3, 12 * u, -12 * u));
+    [0, 1, 2, 3, 64, 127, 128, 129, 192, 254, 255]
+        .map(|drag| {
+            let settings = settings(0, 0).with_drag(drag);
+            update_nodes_with(&format!("drag-{drag}"), settings, &nodes, None)
+        })
+        .into()
+}
+
+/// A grid whose velocities without gravity differ from node to node, with one massless node.
+fn distinct_grid(size: Size) -> Grid {
+    let mut grid = Grid::zero(size.nodes());
+    for node in (0..size.nodes()).filter(|&node| node != 6) {
+        let (mass, k) = (1 + node as i64 % 3, node as i64);
+        grid.mass[node] = mass as u64;
+        grid.x[node] = 4 * mass * (1000 + 37 * k);
+        grid.y[node] = -4 * mass * (2000 + 53 * k);
+    }
+    grid
+}
+
+/// Every edge on small grids, where bands overlap, and on larger ones; with drag on some.
+fn update_rims() -> Vec<Case> {
+    let sizes = [(4, 4), (4, 5), (5, 4), (6, 4), (7, 6), (8, 9)];
+    let mut cases = Vec::new();
+    for edge in Edge::ALL {
+        for (nx, ny) in sizes {
+            for drag in if nx < 7 { &[0][..] } else { &[0, 1, 128, 255] } {
+                let size = Size::new(nx, ny);
+                let settings = Settings::new(size, 3, -5).with_edge(edge).with_drag(*drag);
+                let name = format!("update/{}-on-{nx}-by-{ny}-drag-{drag}", edge_name(edge));
+                let buffers = grid_alone(distinct_grid(size));
+                cases.push(case(name, Operation::Update(settings), buffers, None));
+            }
+        }
+    }
+    cases
+}
+
+/// 11 and 12 at a node of the band, and 12 of a velocity that drag would bring within its limit.
+fn update_refused_before_drag_and_rim() -> Vec<Case> {
+    let (last, next) = (12 * 131_072 + 5, 12 * 131_072 + 6);
+    let mut cases = Vec::new();
+    for (edge, drag) in [
+        (Edge::OPEN, 255),
+        (Edge::sticky(1), 0),
+        (Edge::sticky(3), 255),
+        (Edge::slip(1), 0),
+        (Edge::slip(2), 128),
+    ] {
+        let settings = settings(0, 0).with_edge(edge).with_drag(drag);
+        let update = |what: &str, nodes: &[_], number: u32| {
+            let name = format!("{}-drag-{drag}-{what}", edge_name(edge));
+            let stated = (number > 0).then_some((number, 2));
+            update_nodes_with(&name, settings, nodes, stated)
+        };
+        cases.extend([
+            update("velocity-131072", &[(3, last, -last)], 0),
+            update("velocity-131073-x", &[(3, -next, last)], 12),
+            update("velocity-131073-y", &[(3, last, next)], 12),
+            update("massless-momentum", &[(0, 0, -1), (3, next, 0)], 11),
+            update("mass-2^43+1", &[(HEAVY + 1, 0, 0)], 11),
+        ]);
     }
     cases
 }

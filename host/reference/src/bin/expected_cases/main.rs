@@ -12,7 +12,7 @@ use output::{answer, buffers, bytes, numbers, values};
 use reference::limits::{MAX_SET_LENGTH, RECORD_LENGTH};
 use reference::{
     check_set, gather, read_file, read_record, run, scatter, step, totals, update, weights,
-    write_header, write_record, Header, Particle, Settings, Size,
+    write_header, write_record, Edge, Header, Particle, Settings, Size,
 };
 
 /// The bytes that are kept from line to line, and how many of them a call is lent.
@@ -64,8 +64,13 @@ fn particle(fields: &[i128]) -> Particle {
         .with_b([bxx, bxy, byx, byy])
 }
 
-fn settings(nx: i128, ny: i128, gx: i128, gy: i128) -> Settings {
+fn settings(numbers: &[i128]) -> Settings {
+    let &[nx, ny, gx, gy, kind, width, drag] = numbers else {
+        panic!("not seven settings: {numbers:?}");
+    };
     Settings::new(Size::new(nx, ny), gx, gy)
+        .with_edge(Edge::new(kind, width))
+        .with_drag(drag)
 }
 
 /// An operation on a record, a set or a file.
@@ -85,15 +90,10 @@ fn on_bytes(line: &Line, kept: &mut Kept) -> Option<String> {
                 found.map(|t| [t.mass, t.px, t.py, t.angular_momentum, t.motion]),
             )
         }
-        ("file", []) => values('v', read_file(lent).map(header_values)),
+        ("file", []) => values('v', read_file(lent).map(|header| header.values())),
         ("write", fields) => answer(write_record(&particle(fields), lent)) + &kept.shown(),
-        ("header", &[nx, ny, gx, gy, count, steps]) => {
-            let settings = settings(nx, ny, gx, gy);
-            let header = Header {
-                settings,
-                count,
-                steps,
-            };
+        ("header", given) => {
+            let header = Header::of(given.try_into().expect("nine values"));
             answer(write_header(&header, lent)) + &kept.shown()
         }
         _ => return None,
@@ -101,25 +101,18 @@ fn on_bytes(line: &Line, kept: &mut Kept) -> Option<String> {
     Some(shown)
 }
 
-fn header_values(header: Header) -> [i128; 6] {
-    let Settings { size, gx, gy } = header.settings;
-    [size.nx, size.ny, gx, gy, header.count, header.steps]
-}
-
 /// An operation on a grid, whose lists are masses, x and y.
 fn on_grid(line: &Line, lists: &mut Lists, kept: &mut Kept) -> Option<String> {
     let lent = kept.lent();
     let mut shown = match (line.name, &line.numbers[..]) {
         ("scatter", &[nx, ny]) => answer(scatter(Size::new(nx, ny), lent, &mut lists.lent())),
-        ("update", &[nx, ny, gx, gy]) => {
-            answer(update(settings(nx, ny, gx, gy), &mut lists.lent()))
-        }
-        ("step", &[nx, ny, gx, gy]) => {
-            let answered = step(settings(nx, ny, gx, gy), lent, &mut lists.lent());
+        ("update", given) => answer(update(settings(given), &mut lists.lent())),
+        ("step", given) => {
+            let answered = step(settings(given), lent, &mut lists.lent());
             answer(answered) + &kept.shown()
         }
-        ("run", &[nx, ny, gx, gy, steps]) => {
-            let ran = run(settings(nx, ny, gx, gy), steps, lent, &mut lists.lent());
+        ("run", &[ref given @ .., steps]) => {
+            let ran = run(settings(given), steps, lent, &mut lists.lent());
             let answered = ran.refusal.map_or(Ok(()), Err);
             answer(answered) + &kept.shown() + &numbers('n', &[ran.completed])
         }
