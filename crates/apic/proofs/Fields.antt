@@ -2,17 +2,15 @@
 --     Agree           two fields are the same at the nodes of the grid
 --     velocity-fields, affine-fields, moved-field, moved-fields
 --                     then their gathers are the same
---     Indexed, indexed
---                     the index of a node, and back
 --     node-grid       the list that a field fills has the field's value at each node
 -- Assumes nothing.
 use mathlib.Core.Path.{_≡_, refl, ap, ap₂, _∙_}
 use mathlib.Core.List.{List, [], _∷_, map}
-use Prim.Native.Nat.{ℕ, suc, _+_, _*_, _/_, _%_, _^_, _<_, _≤_}
-use native.Mathlib.Nat.{add-zero, mul-comm, mul-le-mul-right, mul-add-mod-self-right, mul-add-div-right, mod-eq-of-lt, div-eq-of-lt}
+use Prim.Native.Nat.{ℕ, _+_, _*_, _/_, _%_, _^_, _<_}
 use native.Mathlib.Omega.{arith}
 use lib.IntN.{ℤ, pos, natAbs, _*ℤ_}
 use Rattle.arith.specs.Lists.{getD-tabulated}
+use Rattle.arith.specs.Indices.{column, line, index-below}
 use Rattle.particle.specs.declared.Particle.{Particle}
 use Rattle.apic.specs.Step.{Axis, alongX, alongY, apart, weight, gatheredVelocity, gatheredAffine, newCoordinate, moved, grid, node}
 use Rattle.apic.proofs.Nodes.{nodes-cong}
@@ -54,27 +52,10 @@ module _ (round : ℤ → ℕ → ℤ) (w : ℕ → ℕ → ℤ) (nx ny : ℕ) w
 
 -- ---- grids
 
--- node (i, j) has index j·nx + i, and that index is of column i and row j
-pub record Indexed (nx ny i j : ℕ) : Type 0 where
-  pub inside : j * nx + i < nx * ny
-  pub column : (j * nx + i) % nx ≡ i
-  pub row : (j * nx + i) / nx ≡ j
-
-pub indexed : {nx ny i j : ℕ} → i < nx → j < ny → Indexed nx ny i j
-indexed {nx} {ny} {i} {j} in-x in-y =
-    record {
-      inside = inside i j nx ny in-x (mul-le-mul-right nx in-y);
-      column = mul-add-mod-self-right j nx i ∙ mod-eq-of-lt in-x;
-      row = mul-add-div-right (some i nx in-x) j i ∙ ap (λ q. j + q) (div-eq-of-lt in-x) ∙ add-zero j;
-    }
+pub node-grid : (nx ny : ℕ) (f : ℕ → ℕ → ℤ) → Agree nx ny (node nx (grid nx ny f)) f
+node-grid nx ny f i j in-x in-y =
+    getD-tabulated (λ k. f (k % nx) (k / nx)) (nx * ny) (j * nx + i) (pos 0) (index-below nx ny i j in-x in-y)
+    ∙ ap₂ f (column nx (some i nx in-x) i j in-x) (line nx (some i nx in-x) i j in-x)
   where
     some : (i nx : ℕ) → i < nx → 0 < nx
     some i nx h = omega arith
-
-    inside : (i j nx ny : ℕ) → i < nx → suc j * nx ≤ ny * nx → j * nx + i < nx * ny
-    inside i j nx ny h k = omega (arith, mul-comm nx ny)
-
-pub node-grid : (nx ny : ℕ) (f : ℕ → ℕ → ℤ) → Agree nx ny (node nx (grid nx ny f)) f
-node-grid nx ny f i j in-x in-y =
-    let k = indexed in-x in-y in
-    getD-tabulated (λ k. f (k % nx) (k / nx)) (nx * ny) (j * nx + i) (pos 0) (k .inside) ∙ ap₂ f (k .column) (k .row)

@@ -13,7 +13,7 @@ use Prim.Native.Nat.{ℕ, _*_, _^_, _<_, _≤_}
 use native.Mathlib.Nat.{le-trans}
 use lib.IntN.{ℤ, pos, natAbs}
 use lib.Signed.{_≤ℤ_}
-use Rattle.arith.specs.Order.{Within, within-of}
+use Rattle.arith.specs.Order.{within-of}
 use Rattle.arith.specs.Size.{Bound, bound-within, within-bound}
 use Rattle.arith.specs.Rounding.{Nearest}
 use Rattle.arith.specs.Sums.{Each, each-map}

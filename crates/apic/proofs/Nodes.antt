@@ -4,6 +4,7 @@
 --     nodes-cong, nodes-add, nodes-sub, nodes-scale   as for a range; of the terms only those of the grid count
 --     nodes-three-scaled                              Σ (a·f + b·g + c·h) over nodes
 --     nodes-exchange                                  a sum over nodes of sums over a list
+--     nodes-zero                                      a sum of zeros
 --     nodes-within                                    the size of a sum against the sum of sizes
 --     node-most                                       a term of a sum of terms that are not negative is at most the sum
 -- Assumes nothing.
@@ -15,7 +16,7 @@ use native.Mathlib.Omega.{arith}
 use lib.IntN.{ℤ, pos, _+ℤ_, _-ℤ_, _*ℤ_}
 use lib.Signed.{_≤ℤ_}
 use Rattle.arith.specs.Order.{Within, linear, reading, _&_, ≤ℤ-trans}
-use Rattle.arith.specs.Sums.{Each, from, upTo, sumOver, sum-cong, sum-cong-each, sum-add, sum-sub, sum-scale, sum-exchange, sum-within, sum-nonneg, each-upTo, each-all}
+use Rattle.arith.specs.Sums.{Each, from, upTo, sumOver, sum-cong, sum-cong-each, sum-add, sum-sub, sum-scale, sum-exchange, sum-zero, sum-within, sum-nonneg, each-upTo, each-all}
 use Rattle.apic.specs.Step.{overNodes}
 
 -- with an arm k at each node
@@ -68,6 +69,11 @@ module _ (nx ny : ℕ) where
   nodes-within k f h =
       sum-within (λ j. sumOver (upTo nx) (λ i. k i j)) (λ j. sumOver (upTo nx) (λ i. f i j)) (upTo ny)
       (each-upTo _ ny (λ j in-y. sum-within (λ i. k i j) (λ i. f i j) (upTo nx) (each-upTo _ nx (λ i in-x. h i j in-x in-y))))
+
+  pub nodes-zero : (f : ℕ → ℕ → ℤ) → ((i j : ℕ) → f i j ≡ pos 0) → overNodes nx ny f ≡ pos 0
+  nodes-zero f h =
+      sum-zero (λ j. sumOver (upTo nx) (λ i. f i j)) (upTo ny)
+      (each-all (λ j. sumOver (upTo nx) (λ i. f i j) ≡ pos 0) (λ j. sum-zero (λ i. f i j) (upTo nx) (each-all (λ i. f i j ≡ pos 0) (λ i. h i j) (upTo nx))) (upTo ny))
 
 -- ---- one term
 

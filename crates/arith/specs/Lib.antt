@@ -7,4 +7,5 @@ pub mod Rounding
 pub mod Sums
 pub mod Lists
 pub mod Fill
+pub mod Indices
 pub mod Neighbours

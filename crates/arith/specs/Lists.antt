@@ -1,7 +1,7 @@
 -- Laws of lists that several crates use and the library lacks (lib.ListN and lib.Seq have those of single stores, loads and parts).
 --     tabulated       length-tabulated, getD-from, getD-tabulated    a list of f at 0, .., n − 1
 --                     map-each                                       two functions that agree on each element
---                     mapped                                         a function of each element, by their places
+--                     getD-mapped, mapped                            a function of each element, by their places
 --     elements        each-at, each-of                               a property of each, and at each place
 --                     each-append, each-prefix, each-take, each-drop
 --     parts           length-take-most, length-part, drop-take       of take and drop
@@ -14,7 +14,7 @@ use mathlib.Core.List.{List, [], _∷_, _++_, map, append-assoc}
 use Prim.Native.Nat.{ℕ, zero, suc, _+_, _-_, _<_, _≤_, zero-le, suc-le-suc}
 use native.Mathlib.Nat.{zero-add, add-zero, add-suc, suc-add, add-assoc, le-refl, le-of-suc-le-suc, not-suc-le-zero}
 use native.Mathlib.Omega.{arith}
-use lib.ListN.{length, getD, take, drop, length-append, length-drop, length-map, List·getD-map}
+use lib.ListN.{length, getD, take, drop, length-append, length-drop, length-map}
 use lib.Seq.{take-add, take-at, drop-at, drop-drop, length-take-le, ext-getD}
 use Rattle.arith.specs.Sums.{Each, from, upTo, totalOver, length-from}
 
@@ -36,12 +36,19 @@ pub map-each : {A B : Type 0} (f g : A → B) (xs : List A) → Each (λ x. f x 
 map-each f g [] e = refl
 map-each f g (x ∷ xs) e = ap₂ _∷_ (e .0) (map-each f g xs (e .1))
 
+pub getD-mapped : {A B : Type 0} (f : A → B) (d : A) (e : B) (l : List A) (k : ℕ) → k < length l → getD (map f l) k e ≡ f (getD l k d)
+getD-mapped f d e [] k h = absurd (not-suc-le-zero h)
+getD-mapped f d e (x ∷ l) zero h = refl
+getD-mapped f d e (x ∷ l) (suc k) h = getD-mapped f d e l k (le-of-suc-le-suc h)
+
 -- a function of each element, by the elements' places
 pub mapped : {A B : Type 0} (f : A → B) (d : A) (l : List A) → map (λ k. f (getD l k d)) (upTo (length l)) ≡ map f l
 mapped f d l =
     ext-getD (f d) (map (λ k. f (getD l k d)) (upTo (length l))) (map f l)
     (length-tabulated (λ k. f (getD l k d)) (length l) ∙ sym (length-map l f))
-    (λ k h. getD-tabulated (λ k. f (getD l k d)) (length l) k (f d) (subst (λ n. k < n) (length-tabulated (λ k. f (getD l k d)) (length l)) h) ∙ sym (List·getD-map f l k d))
+    (λ k h.
+    let below : k < length l = subst (λ n. k < n) (length-tabulated (λ k. f (getD l k d)) (length l)) h in
+    getD-tabulated (λ k. f (getD l k d)) (length l) k (f d) below ∙ sym (getD-mapped f d (f d) l k below))
 
 -- ---- elements
 

@@ -91,7 +91,7 @@ module _ (s : Settings) where
   pub good-forces : (rest : Answer Unit) → bothWithin mostGravity (s .gx) (s .gy) ≡ true → validEdge (s .edge) ≡ true → s .drag ≤ mostDrag → checkedForces s rest ≡ rest
   good-forces rest p q r = by-force rest p q (le-ltb mostDrag (s .drag) r)
 
-  pub passed-forces : (rest : Answer Unit) {t : Unit} → checkedForces s rest ≡ result t → ForceLimits s × (rest ≡ result t)
+  passed-forces : (rest : Answer Unit) {t : Unit} → checkedForces s rest ≡ result t → ForceLimits s × (rest ≡ result t)
   unfolding checkedForces
   passed-forces rest e =
       let light = passed (not (bothWithin mostGravity (s .gx) (s .gy))) 10 0 _ e in
@@ -112,7 +112,7 @@ module _ (s : Settings) where
       good-forces rest (both-within mostGravity (s .gx) (s .gy) (f .gravity-x) (f .gravity-y)) (f .edge) (f .drag)
 
   -- the checks alone decide, whatever comes after them
-  pub forces-first : (rest : Answer Unit) → checkedForces s rest ≡ andThen (checkedForces s done) (λ _. rest)
+  forces-first : (rest : Answer Unit) → checkedForces s rest ≡ andThen (checkedForces s done) (λ _. rest)
   unfolding checkedForces
   forces-first rest = go (not (bothWithin mostGravity (s .gx) (s .gy))) (not (validEdge (s .edge))) (ltb mostDrag (s .drag))
     where

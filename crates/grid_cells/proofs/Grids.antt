@@ -1,5 +1,4 @@
 -- Grids as lists.
---     column, line, index      node (i, j) and its index j·nx + i
 --     getD-grid, length-grid   what stands in a grid
 --     plus-from                a list that holds f(i, j) more at every node
 --     plus-cong, plus-plus     laws of what is added
@@ -11,7 +10,7 @@ use mathlib.Core.Path.{_≡_, refl, sym, ap, ap₂, subst, _∙_}
 use mathlib.Core.Bool.{Bool, true, false}
 use mathlib.Core.List.{List, map}
 use Prim.Native.Nat.{ℕ, zero, suc, _+_, _-_, _*_, _/_, _%_, _<_, _≤_, zero-le}
-use native.Mathlib.Nat.{add-zero, div-add-mod', mod-lt, mod-eq-of-lt, div-eq-of-lt, mul-add-div-right, mul-add-mod-self-right, div-lt-iff-lt-mul, mul-comm, suc-mul, mul-le-mul-right, lt-of-lt-of-le, add-assoc}
+use native.Mathlib.Nat.{suc-mul, add-assoc}
 use native.Mathlib.Numerals.{add-one}
 use native.Mathlib.Omega.{arith}
 use lib.Dec.{ltb}
@@ -23,40 +22,12 @@ use borrow.Author.Tests.{ltb-true, ltb-false}
 use Rattle.arith.specs.Order.{nonneg-pos}
 use Rattle.arith.specs.Size.{Bound, bound-sum}
 use Rattle.arith.specs.Lists.{getD-tabulated, length-tabulated}
+use Rattle.arith.specs.Indices.{column, line, column-below, line-below, index, index-below}
 use Rattle.arith.specs.Neighbours.{neighbours, by-place, neighbours-inside}
 use Rattle.apic.specs.Step.{grid, node}
 use Rattle.grid_cells.specs.Cells.{addRow, Cells}
 use Rattle.grid_cells.specs.Plus.{plus, massPlus}
 use Rattle.grid_cells.proofs.Spots.{spot, spot-here, spot-else, three-spots, added-row, length-row}
-
--- ---- nodes and indices
-
-module _ (nx : ℕ) (some : 0 < nx) where
-  pub column : (i j : ℕ) → i < nx → (j * nx + i) % nx ≡ i
-  column i j h = mul-add-mod-self-right j nx i ∙ mod-eq-of-lt h
-
-  pub line : (i j : ℕ) → i < nx → (j * nx + i) / nx ≡ j
-  line i j h = mul-add-div-right some j i ∙ ap (λ k. j + k) (div-eq-of-lt h) ∙ add-zero j
-
-  pub column-below : (n : ℕ) → n % nx < nx
-  column-below n = mod-lt n some
-
-  pub line-below : (ny n : ℕ) → n < nx * ny → n / nx < ny
-  line-below ny n h = div-lt-iff-lt-mul some .1 (subst (λ k. n < k) (mul-comm nx ny) h)
-
-pub index : (nx n : ℕ) → n / nx * nx + n % nx ≡ n
-index nx n = div-add-mod' n nx
-
--- the index of a node of the grid is below its size
-pub index-below : (nx ny i j : ℕ) → i < nx → j < ny → j * nx + i < nx * ny
-index-below nx ny i j h g =
-    lt-of-lt-of-le (next (j * nx) i nx h) (subst (λ k. j * nx + nx ≤ k) (mul-comm ny nx) (rows j ny g))
-  where
-    next : (a i n : ℕ) → i < n → a + i < a + n
-    next a i n h = omega arith
-
-    rows : (j ny : ℕ) → j < ny → j * nx + nx ≤ ny * nx
-    rows j ny g = rw (← suc-mul j nx) (mul-le-mul-right nx g)
 
 -- ---- what stands in a grid
 

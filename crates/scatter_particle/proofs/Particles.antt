@@ -26,7 +26,8 @@ use Rattle.particle.specs.declared.Particle.{Particle}
 use Rattle.apic.specs.Step.{Axis, alongX, alongY, velocity, affine, apart, weight, nodeMass, nodeMomentum}
 use Rattle.apic.specs.Limits.{SizeLimits, ParticleLimits}
 use Rattle.apic.proofs.Kernel.{kernel-mass-nonneg}
-use Rattle.grid_cells.proofs.Grids.{row-high, line-above-index, index-below, plus-cong, mass-plus}
+use Rattle.arith.specs.Indices.{index-below}
+use Rattle.grid_cells.proofs.Grids.{row-high, line-above-index, plus-cong, mass-plus}
 use Rattle.scatter_block.specs.Lines.{Held, BlockLimits, BlockAdded, mostBefore, mostMiddle, mostChange}
 use Rattle.scatter_particle.specs.Added.{Added, ParticleReady, Middle}
 use Rattle.scatter_particle.proofs.Shares.{momentum-shares, mass-shares}

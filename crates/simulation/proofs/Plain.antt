@@ -14,12 +14,13 @@ use Rattle.arith.specs.Order.{Within, linear, reading, _&_, nothing}
 use Rattle.arith.specs.Solver.{ring, quote}
 use Rattle.arith.specs.Rounding.{rounded, rounded-error}
 use Rattle.arith.specs.Lists.{each-append}
-use Rattle.arith.specs.Sums.{Each, sumOver, upTo, sum-cong-each, sum-scale, sum-zero, each-all}
+use Rattle.arith.specs.Sums.{Each, sumOver, sum-cong-each, sum-scale}
 use Rattle.spline.specs.Spline.{axisWeight, D}
 use Rattle.particle.specs.declared.Particle.{Particle}
 use Rattle.particles.specs.Set.{particlesIn}
-use Rattle.apic.specs.Step.{Axis, alongX, alongY, nodeMass, overNodes}
+use Rattle.apic.specs.Step.{Axis, alongX, alongY, nodeMass}
 use Rattle.apic.specs.Totals.{totalMass, momentum, angularMomentum, nodeChange, impulse, angularImpulse}
+use Rattle.apic.proofs.Nodes.{nodes-zero}
 use Rattle.apic.proofs.Edges.{plain-change}
 use Rattle.settings.specs.declared.Settings.{Settings}
 use Rattle.settings.specs.Settings.{Plain}
@@ -42,17 +43,12 @@ plain-settings (c ∷ cs) records h =
     (each-replicate Plain (completes c records) (settingsOf c) (h .0))
     (plain-settings cs (leaves c records) (h .1))
 
-pub all-plain : (ss : List Settings) (ps : List Particle) → Each Plain ss → Each (λ c. Plain (c .settings)) (worked ss ps)
+all-plain : (ss : List Settings) (ps : List Particle) → Each Plain ss → Each (λ c. Plain (c .settings)) (worked ss ps)
 unfolding worked
 all-plain [] ps h = tt
 all-plain (s ∷ ss) ps h = (h .0, all-plain ss (stepped s ps) (h .1))
 
 -- ---- drag and rim give nothing
-
-nodes-zero : (nx ny : ℕ) (f : ℕ → ℕ → ℤ) → ((i j : ℕ) → f i j ≡ pos 0) → overNodes nx ny f ≡ pos 0
-nodes-zero nx ny f h =
-    sum-zero (λ j. sumOver (upTo nx) (λ i. f i j)) (upTo ny)
-    (each-all (λ j. sumOver (upTo nx) (λ i. f i j) ≡ pos 0) (λ j. sum-zero (λ i. f i j) (upTo nx) (each-all (λ i. f i j ≡ pos 0) (λ i. h i j) (upTo nx))) (upTo ny))
 
 module _ (c : CompletedStep) (plain : Plain (c .settings)) where
   still : (a : Axis) (i j : ℕ) → nodeChange rounded axisWeight D (c .settings) a (c .before) i j ≡ pos 0

@@ -10,12 +10,12 @@ use mathlib.Core.Bool.{Bool, true, false, _||_}
 use mathlib.Core.List.{List, [], _∷_, map}
 use mathlib.Core.Logic.{_⊎_, inl, inr, ⊎-elim}
 use Prim.Native.Nat.{ℕ, zero, suc, _+_, _*_, _/_, _%_, _≤_, _<_}
-use native.Mathlib.Nat.{mod-lt, div-lt-iff-lt-mul, mul-comm}
 use native.Mathlib.Omega.{arith}
 use lib.ListN.{length, getD, replicate}
 use lib.IntN.{ℤ, pos, natAbs}
 use lib.Signed.{_≤ℤ_}
 use Rattle.arith.specs.Order.{nonneg-pos, pos-cancel}
+use Rattle.arith.specs.Indices.{column-below, line-below}
 use Rattle.arith.specs.Rounding.{rounded, rounded-error}
 use Rattle.arith.specs.Sums.{Each, upTo, each-upTo}
 use Rattle.refusal.specs.Refused.{Answer, result, refused, refuseIf, done}
@@ -52,7 +52,7 @@ inside k zero ny h = absurd (none k ny h)
     none k ny h = omega arith
 inside k (suc n) ny h =
     let some : 0 < suc n = omega arith in
-    (mod-lt k some, div-lt-iff-lt-mul some .1 (subst (λ m. k < m) (mul-comm (suc n) ny) h))
+    (column-below (suc n) some k, line-below (suc n) some ny k h)
 
 module _ {w : ℕ → ℕ → ℤ} {D : ℕ} (law : Lawful w D) (s : Settings) (ps : List Particle) (limits : SetLimits (s .nx) (s .ny) ps) (forces : ForceLimits s) where
   updated-most : (a : Axis) (i j : ℕ) → natAbs (updatedField w D s a ps i j) ≤ mostNodeVelocity

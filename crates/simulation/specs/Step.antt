@@ -2,7 +2,7 @@
 -- numbers and any buffers sees after a call: the answer, the records and the three grids. Assumes nothing.
 use mathlib.Core.Path.{_≡_}
 use mathlib.Core.List.{List, map}
-use Prim.Native.Nat.{ℕ, _*_}
+use Prim.Native.Nat.{ℕ}
 use lib.ListN.{length}
 use lib.IntN.{ℤ, natAbs}
 use Rattle.refusal.specs.Refused.{Answer, result, refused, refusedBy, either, done}

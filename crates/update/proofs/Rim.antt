@@ -8,23 +8,23 @@ use mathlib.Core.Bool.{Bool, true, false, cond, _||_}
 use mathlib.Core.List.{List}
 use mathlib.Core.Logic.{_⊎_, inl, inr}
 use Prim.Native.Nat.{ℕ, _+_, _*_, _/_, _%_, _<_}
+use native.Mathlib.Omega.{arith}
 use lib.Dec.{ltb, leb}
 use lib.ListN.{getD}
 use lib.IntN.{ℤ, pos}
 use borrow.Author.Tests.{lt-ltb, le-leb}
 use Rattle.arith.specs.Rounding.{rounded}
 use Rattle.arith.specs.Lists.{getD-tabulated}
+use Rattle.arith.specs.Indices.{column, line, index-below}
 use Rattle.refusal.specs.Refused.{done, either}
 use Rattle.refusal.proofs.Answers.{went-on}
 use Rattle.spline.specs.Spline.{D}
-use Rattle.apic.specs.Step.{Axis, alongX, alongY, inBand, holds, afterRim, updatedVelocity, node}
-use Rattle.apic.proofs.Fields.{indexed}
-use Rattle.settings.specs.declared.Edge.the-variants.{Sticky, Slip}
+use Rattle.apic.specs.Step.{Axis, alongX, alongY, inBand, holds, updatedVelocity, node}
 use Rattle.settings.specs.declared.Settings.{Settings}
-use Rattle.update.specs.Update.{velocities, updateAnswer, UpdateIs, BothAxes, bothAxes}
+use Rattle.update.specs.Update.{velocities, updateAnswer, UpdateIs, bothAxes}
 use Rattle.update.specs.Rim.{Outermost, RimHeld, RimHolds}
 
-pub in-band : (width n i : ℕ) → Outermost width n i → inBand width n i ≡ true
+in-band : (width n i : ℕ) → Outermost width n i → inBand width n i ≡ true
 in-band width n i (inl h) = ap (λ b. b || leb n (i + width)) (lt-ltb i width h)
 in-band width n i (inr h) = ap (λ b. ltb i width || b) (le-leb n (i + width) h) ∙ either-true (ltb i width)
   where
@@ -41,10 +41,12 @@ module _ (s : Settings) (mass : List ℕ) (a : Axis) (momentum : List ℤ) (i j 
   held : holds (s .edge) (s .nx) (s .ny) a i j ≡ true → node (s .nx) (velocities D s a mass momentum) i j ≡ pos 0
   unfolding velocities updatedVelocity
   held e =
-      let k = indexed in-x in-y in
-      getD-tabulated (λ k. updatedVelocity rounded D s a (k % s .nx) (k / s .nx) (getD mass k 0) (getD momentum k (pos 0))) (s .nx * s .ny) (j * s .nx + i) (pos 0) (k .inside)
-      ∙ at-rest _ _ (ap₂ (λ i j. holds (s .edge) (s .nx) (s .ny) a i j) (k .column) (k .row) ∙ e)
+      getD-tabulated (λ k. updatedVelocity rounded D s a (k % s .nx) (k / s .nx) (getD mass k 0) (getD momentum k (pos 0))) (s .nx * s .ny) (j * s .nx + i) (pos 0) (index-below (s .nx) (s .ny) i j in-x in-y)
+      ∙ at-rest _ _ (ap₂ (λ i j. holds (s .edge) (s .nx) (s .ny) a i j) (column (s .nx) (some i (s .nx) in-x) i j in-x) (line (s .nx) (some i (s .nx) in-x) i j in-x) ∙ e)
     where
+      some : (i nx : ℕ) → i < nx → 0 < nx
+      some i nx h = omega arith
+
       at-rest : (h : Bool) (u : ℤ) → h ≡ true → cond h (pos 0) u ≡ pos 0
       at-rest h u e = ap (λ h. cond h (pos 0) u) e
 

@@ -3,23 +3,22 @@
 --     accelerated-within    no velocity after gravity is beyond its limit
 --     passes                drag and then the rim leave the definition's velocities
 -- Assumes nothing.
-use mathlib.Core.Path.{_≡_, refl, sym, ap, ap₂, _∙_, subst}
+use mathlib.Core.Path.{_≡_, sym, ap, _∙_, subst}
 use mathlib.Core.Bool.{cond}
-use mathlib.Core.List.{List, [], _∷_, map}
-use Prim.Native.Nat.{ℕ, zero, suc, _*_, _≤_, _<_}
-use native.Mathlib.Nat.{le-of-suc-le-suc, not-suc-le-zero}
+use mathlib.Core.List.{List, map}
+use Prim.Native.Nat.{ℕ, _*_, _≤_, _<_}
 use lib.ListN.{length, getD, length-map}
 use lib.IntN.{ℤ, pos, natAbs}
 use Rattle.arith.specs.Size.{Bound}
 use Rattle.arith.specs.Rounding.{rounded}
 use Rattle.arith.specs.Sums.{Each, upTo, each-upTo}
-use Rattle.arith.specs.Lists.{length-tabulated, getD-tabulated, map-each, each-of}
+use Rattle.arith.specs.Lists.{length-tabulated, getD-tabulated, map-each, getD-mapped, each-of}
 use Rattle.limits.specs.Limits.{mostNodeVelocity}
 use Rattle.apic.specs.Step.{Axis, gravity, afterDrag, updatedVelocity}
 use Rattle.settings.specs.declared.Settings.{Settings}
 use Rattle.update.specs.Update.{velocityOf, velocities}
 use Rattle.update.specs.Internal.{accelerated}
-use Rattle.update_rim.specs.Cleared.{cleared, heldAt}
+use Rattle.update_rim.specs.Internal.{cleared, heldAt}
 
 module _ (d n : ℕ) (g : ℤ) (mass : List ℕ) (momentum : List ℤ) where
   abbrev at : ℕ → ℤ
@@ -45,17 +44,12 @@ module _ (d : ℕ) (s : Settings) (a : Axis) (mass : List ℕ) (momentum : List 
   abbrev slow : ℤ → ℤ
   slow = afterDrag rounded (s .drag)
 
-  mapped-at : (l : List ℤ) (k : ℕ) → k < length l → getD (map slow l) k (pos 0) ≡ slow (getD l k (pos 0))
-  mapped-at [] k h = absurd (not-suc-le-zero h)
-  mapped-at (u ∷ l) zero h = refl
-  mapped-at (u ∷ l) (suc k) h = mapped-at l k (le-of-suc-le-suc h)
-
   long : length (map slow before) ≡ s .nx * s .ny
   long = length-map before slow ∙ accelerated-length d (s .nx * s .ny) (gravity s a) mass momentum
 
   slowed-at : (k : ℕ) → k < s .nx * s .ny → getD (map slow before) k (pos 0) ≡ slow (velocityOf d (gravity s a) (getD mass k 0) (getD momentum k (pos 0)))
   slowed-at k h =
-      mapped-at before k (subst (λ n. k < n) (sym (accelerated-length d (s .nx * s .ny) (gravity s a) mass momentum)) h)
+      getD-mapped slow (pos 0) (pos 0) before k (subst (λ n. k < n) (sym (accelerated-length d (s .nx * s .ny) (gravity s a) mass momentum)) h)
       ∙ ap slow (accelerated-at d (s .nx * s .ny) (gravity s a) mass momentum k h)
 
   pub passes : cleared (heldAt s a) (map slow before) ≡ velocities d s a mass momentum

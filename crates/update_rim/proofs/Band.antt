@@ -6,12 +6,13 @@
 use mathlib.Core.Path.{_≡_, refl, sym, ap, ap₂, _∙_, subst}
 use mathlib.Core.Bool.{Bool, true, false, _&&_, _||_}
 use Prim.Native.Nat.{ℕ, _+_, _-_, _*_, _/_, _%_, _≤_, _<_}
-use native.Mathlib.Nat.{zero-add, add-mul, mod-lt, div-add-mod, mul-comm, mul-le-mul-right, div-lt-iff-lt-mul, le-div-iff-mul-le}
+use native.Mathlib.Nat.{zero-add, add-mul, mul-comm, mul-le-mul-right, div-lt-iff-lt-mul, le-div-iff-mul-le}
 use native.Mathlib.Omega.{arith}
 use lib.Dec.{leb, ltb}
 use borrow.Author.Tests.{ltb-true, ltb-false, leb-true, lt-ltb, le-ltb, le-leb, lt-leb}
+use Rattle.arith.specs.Indices.{column-below, line-below, index}
 use Rattle.apic.specs.Step.{inBand}
-use Rattle.update_rim.specs.Cleared.{inPart, inColumns, inRows}
+use Rattle.update_rim.specs.Internal.{inPart, inColumns, inRows}
 
 same : (a b : Bool) → (a ≡ true → b ≡ true) → (b ≡ true → a ≡ true) → a ≡ b
 same true b f g = sym (f refl)
@@ -65,7 +66,7 @@ module _ (nx width j : ℕ) (some : 0 < nx) (narrow : width ≤ nx) where
   row-turn k = go (ltb (k / nx) j) (ltb j (k / nx)) refl refl
     where
       is : k ≡ k / nx * nx + k % nx
-      is = omega (arith, div-add-mod k nx, mul-comm nx (k / nx))
+      is = sym (index nx k)
 
       next-row : (a b : ℕ) → a < b → a * nx + nx ≤ b * nx
       next-row a b h = omega (arith, mul-le-mul-right nx h)
@@ -73,13 +74,13 @@ module _ (nx width j : ℕ) (some : 0 < nx) (narrow : width ≤ nx) where
       go : (a b : Bool) → ltb (k / nx) j ≡ a → ltb j (k / nx) ≡ b → ((ltb (k / nx) j && inColumns width nx k) || inPart (j * nx) width k) || inPart (j * nx + nx - width) width k ≡ ltb (k / nx) (j + 1) && inColumns width nx k
       go true b e f =
           let h = ltb-true (k / nx) j e in
-          earlier nx width j k (k / nx) (k % nx) (k / nx * nx) (j * nx) is (mod-lt k some) narrow h (next-row (k / nx) j h)
+          earlier nx width j k (k / nx) (k % nx) (k / nx * nx) (j * nx) is (column-below nx some k) narrow h (next-row (k / nx) j h)
       go false true e f =
           let h = ltb-true j (k / nx) f in
-          later nx width j k (k / nx) (k % nx) (k / nx * nx) (j * nx) is (mod-lt k some) narrow h (next-row j (k / nx) h)
+          later nx width j k (k / nx) (k % nx) (k / nx * nx) (j * nx) is (column-below nx some k) narrow h (next-row j (k / nx) h)
       go false false e f =
           let h = equal (k / nx) j (ltb-false (k / nx) j e) (ltb-false j (k / nx) f) in
-          this nx width j k (k / nx) (k % nx) (k / nx * nx) (j * nx) is (mod-lt k some) narrow h (ap (λ n. n * nx) h)
+          this nx width j k (k / nx) (k % nx) (k / nx * nx) (j * nx) is (column-below nx some k) narrow h (ap (λ n. n * nx) h)
         where
           equal : (a b : ℕ) → b ≤ a → a ≤ b → a ≡ b
           equal a b h l = omega arith
@@ -88,12 +89,8 @@ module _ (nx width j : ℕ) (some : 0 < nx) (narrow : width ≤ nx) where
 pub no-row : (nx width k : ℕ) → ltb (k / nx) 0 && inColumns width nx k ≡ false
 no-row nx width k = ap (λ t. t && inColumns width nx k) (le-ltb (k / nx) 0 (omega arith))
 
--- a node of the grid is in one of its rows
-row-of : (nx ny k : ℕ) → 0 < nx → k < nx * ny → k / nx < ny
-row-of nx ny k some h = div-lt-iff-lt-mul some .1 (subst (λ n. k < n) (mul-comm nx ny) h)
-
 pub all-rows : (nx ny width k : ℕ) → 0 < nx → k < nx * ny → ltb (k / nx) ny && inColumns width nx k ≡ inColumns width nx k
-all-rows nx ny width k some h = ap (λ t. t && inColumns width nx k) (lt-ltb (k / nx) ny (row-of nx ny k some h))
+all-rows nx ny width k some h = ap (λ t. t && inColumns width nx k) (lt-ltb (k / nx) ny (line-below nx some ny k h))
 
 -- ---- rows
 

@@ -10,24 +10,24 @@ use mathlib.Core.Bool.{Bool, true, false, cond, _&&_, _||_}
 use mathlib.Core.List.{List, [], _∷_, _++_, map}
 use Prim.Native.Nat.{ℕ, _+_, _-_, _≤_, _<_}
 use native.Mathlib.Omega.{arith}
-use lib.Dec.{leb, ltb}
-use lib.ListN.{length, getD, take, drop, replicate, length-replicate, getD-replicate, length-append, List·getD-append}
+use lib.Dec.{ltb}
+use lib.ListN.{length, getD, take, drop, replicate, length-replicate, getD-replicate, List·getD-append}
 use lib.Seq.{ext-getD, getD-take, getD-drop, getD-append-add, length-take-le}
 use lib.IntN.{ℤ, pos}
 use borrow.Author.Tests.{ltb-true, ltb-false, lt-ltb, le-ltb, le-leb, lt-leb}
 use Rattle.arith.specs.Sums.{upTo, each-upTo}
 use Rattle.arith.specs.Lists.{length-tabulated, getD-tabulated, map-each, mapped, placed, placed-length}
-use Rattle.update_rim.specs.Cleared.{cleared, inPart}
+use Rattle.update_rim.specs.Internal.{cleared, inPart}
 
 module _ (at : ℕ → Bool) (u : List ℤ) where
-  pub length-cleared : length (cleared at u) ≡ length u
+  length-cleared : length (cleared at u) ≡ length u
   unfolding cleared
   length-cleared = length-tabulated (λ k. cond (at k) (pos 0) (getD u k (pos 0))) (length u)
 
   pub cleared-long : {v : List ℤ} → v ≡ cleared at u → length v ≡ length u
   cleared-long e = ap length e ∙ length-cleared
 
-  pub cleared-at : (k : ℕ) → k < length u → getD (cleared at u) k (pos 0) ≡ cond (at k) (pos 0) (getD u k (pos 0))
+  cleared-at : (k : ℕ) → k < length u → getD (cleared at u) k (pos 0) ≡ cond (at k) (pos 0) (getD u k (pos 0))
   unfolding cleared
   cleared-at k h = getD-tabulated (λ k. cond (at k) (pos 0) (getD u k (pos 0))) (length u) k (pos 0) h
 

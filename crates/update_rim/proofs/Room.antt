@@ -14,9 +14,8 @@ use lib.ListN.{length}
 use lib.IntN.{ℤ}
 use mir.Syntax.{w64}
 use mir.Val.{Fits}
-use Rattle.limits.specs.Limits.{leastSide, mostSide, mostWidth}
-use Rattle.apic.specs.Limits.{SizeLimits}
-use Rattle.update_rim.specs.Cleared.{BandRoom}
+use Rattle.limits.specs.Limits.{mostSide}
+use Rattle.update_rim.specs.Internal.{BandRoom}
 
 module _ {nx ny width : ℕ} {u : List ℤ} (room : BandRoom nx ny width u) where
   pub some : 0 < nx

@@ -6,7 +6,7 @@ ghost use Prim.Native.Nat.{_+_, _≤_};
 ghost use lib.ListN.{length};
 ghost use mathlib.Core.Bool.{_||_};
 ghost use Rattle.apic.specs.Step.{alongX, alongY};
-ghost use Rattle.update_rim.specs.Cleared.{cleared, inPart, inColumns, inRows, heldAt, BandRoom, RimRoom};
+ghost use Rattle.update_rim.specs.Internal.{cleared, inPart, inColumns, inRows, heldAt, BandRoom, RimRoom};
 
 // Clears `count` velocities from an index on. `hold_columns` and `hold_rows` call it.
 fn clear_part(velocities: &mut [i64], from: usize, count: usize)

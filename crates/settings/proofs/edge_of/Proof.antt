@@ -1,7 +1,7 @@
 -- `settings::edge_of` meets its contract: kind by kind. Assumes nothing.
-use mathlib.Core.Path.{_≡_, refl, sym, ap}
+use mathlib.Core.Path.{_≡_, refl}
 use Prim.Native.Nat.{ℕ, zero, suc}
-use Rattle.settings.specs.declared.Edge.the-variants.{Open, Sticky}
+use Rattle.settings.specs.declared.Edge.the-variants.{Sticky}
 use Rattle.settings.specs.Settings.{edgeOf}
 use Rattle.settings.proofs.edge_of.Statement.{statement}
 use Rattle.settings.proofs.edge_of.Tie as tie

@@ -1,5 +1,5 @@
 -- `update_grid::update_all` meets its contract. Assumes nothing.
-use mathlib.Core.Path.{_≡_, sym, ap, _∙_, subst}
+use mathlib.Core.Path.{_≡_, sym, ap, _∙_, subst, subst₂}
 use mathlib.Core.List.{List, map}
 use Prim.Native.Nat.{ℕ, _*_}
 use lib.ListN.{length, length-map}
@@ -15,8 +15,8 @@ use Rattle.limits.specs.Limits.{mostNodeVelocity}
 use Rattle.apic.specs.Step.{alongX, alongY, afterDrag}
 use Rattle.settings.specs.declared.Settings.{Settings}
 use Rattle.update.specs.Update.{velocities}
-use Rattle.update.specs.Internal.{accelerated, GridLimits}
-use Rattle.update_rim.specs.Cleared.{cleared, heldAt, RimRoom}
+use Rattle.update.specs.Internal.{accelerated, NodesWithin, GridLimits}
+use Rattle.update_rim.specs.Internal.{cleared, heldAt, RimRoom}
 use Rattle.update_grid.proofs.Passes.{accelerated-length, accelerated-within, passes}
 use Rattle.update_grid.proofs.update_all.Statement.{statement}
 use Rattle.update_grid.proofs.update_all.Tie as tie
@@ -27,6 +27,10 @@ module _ {d : ℕ} {s : Settings} {mass : List ℕ} {px py : List ℤ} (limits :
 
   back-y : toZ w64 (ofZ w64 (s .gy)) ≡ s .gy
   back-y = read-size w64 (s .gy) (limits .forces .gravity-y) tt
+
+  -- with gravity as the machine reads it
+  within-entry : NodesWithin d (s .nx * s .ny) (toZ w64 (ofZ w64 (s .gx))) (toZ w64 (ofZ w64 (s .gy))) mass px py
+  within-entry = subst₂ (λ gx gy. NodesWithin d (s .nx * s .ny) gx gy mass px py) (sym back-x) (sym back-y) (limits .within)
 
   -- after gravity
   module _ {ux uy : List ℤ} (x : ux ≡ accelerated d (s .nx * s .ny) (toZ w64 (ofZ w64 (s .gx))) mass px) (y : uy ≡ accelerated d (s .nx * s .ny) (toZ w64 (ofZ w64 (s .gy))) mass py) where
@@ -75,8 +79,7 @@ mul-accelerate c = search needs
 
 accelerate-requires : tie.Need-accelerate-requires
 accelerate-requires c κs =
-    let limits = c .before .before .before .before .before .before .pre in
-    rw (back-x limits, back-y limits) (limits .within)
+    within-entry (c .before .before .before .before .before .before .pre)
 
 slow-requires : tie.Need-slow-requires
 slow-requires c κs =

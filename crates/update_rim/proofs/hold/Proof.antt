@@ -14,7 +14,7 @@ use Rattle.settings.specs.declared.Edge.{Edge}
 use Rattle.settings.specs.declared.Edge.the-variants.{Open}
 use Rattle.settings.specs.declared.Settings.{Settings}
 use Rattle.settings.specs.Settings.{validEdge}
-use Rattle.update_rim.specs.Cleared.{cleared, heldAt, BandRoom, RimRoom}
+use Rattle.update_rim.specs.Internal.{cleared, heldAt, BandRoom, RimRoom}
 use Rattle.update_rim.proofs.Cleared.{cleared-none}
 use Rattle.update_rim.proofs.hold.Statement.{statement}
 use Rattle.update_rim.proofs.hold.Tie as tie

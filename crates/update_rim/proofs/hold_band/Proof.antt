@@ -1,7 +1,7 @@
 -- `update_rim::hold_band` meets its contract. Assumes nothing.
-use mathlib.Core.Path.{_≡_, ap, _∙_}
+use mathlib.Core.Path.{ap, _∙_}
 use borrow.Author.Needs.{needs}
-use Rattle.update_rim.specs.Cleared.{cleared, inColumns, inRows}
+use Rattle.update_rim.specs.Internal.{cleared, inColumns, inRows}
 use Rattle.update_rim.proofs.Cleared.{cleared-long, cleared-twice}
 use Rattle.update_rim.proofs.Room.{room-kept}
 use Rattle.update_rim.proofs.hold_band.Statement.{statement}

@@ -1,14 +1,13 @@
 -- `update_rim::hold_columns` meets its contract. The invariant: the band's columns are cleared in the first j rows. The measure
 -- is the number of rows left. Assumes nothing.
-use mathlib.Core.Path.{_≡_, refl, sym, ap, _∙_, subst}
+use mathlib.Core.Path.{_≡_, sym, ap, _∙_, subst}
 use mathlib.Core.Bool.{Bool, _&&_, _||_}
 use mathlib.Core.List.{List}
 use Prim.Native.Nat.{ℕ, _+_, _-_, _*_, _/_, _≤_, _<_}
 use native.Mathlib.Omega.{arith}
 use lib.Dec.{ltb}
-use lib.ListN.{length}
 use lib.IntN.{ℤ}
-use Rattle.update_rim.specs.Cleared.{cleared, inPart, inColumns, BandRoom}
+use Rattle.update_rim.specs.Internal.{cleared, inPart, inColumns, BandRoom}
 use Rattle.update_rim.proofs.Cleared.{cleared-long, cleared-cong, cleared-none, cleared-twice}
 use Rattle.update_rim.proofs.Band.{no-row, row-turn, all-rows}
 use Rattle.update_rim.proofs.Room.{some, narrow-x, row-room, node-fits}

@@ -7,7 +7,7 @@ use native.Mathlib.Omega.{arith}
 use lib.ListN.{length}
 use lib.IntN.{ℤ}
 use borrow.Author.Needs.{needs}
-use Rattle.update_rim.specs.Cleared.{cleared, inPart, inRows, BandRoom}
+use Rattle.update_rim.specs.Internal.{cleared, inPart, inRows, BandRoom}
 use Rattle.update_rim.proofs.Cleared.{cleared-long, cleared-cong, cleared-twice}
 use Rattle.update_rim.proofs.Band.{two-parts}
 use Rattle.update_rim.proofs.Room.{some, narrow-y, part-room, node-fits}
