@@ -36,7 +36,8 @@ fn swapped(w: u64) -> u64
         + w / 72057594037927936
 }
 
-// Eight bytes from `at` on as one number, the first the most significant. Whoever reads a record calls it with a place in it.
+// Eight bytes from `at` on as one number, the first the most significant. Whoever reads a record or a
+// header calls it with a place in it.
 pub fn word(bytes: &[u8], at: usize) -> u64
     requires { ⌜ at + 8 ≤ length (now bytes) ⌝ }
     ensures { λ r. ⌜ r ≡ wordAt (now (bytes .entry)) at ⌝ }
@@ -52,7 +53,7 @@ pub fn low(w: u64) -> u16
 }
 
 // The low bits of a number, `width` of them, read in two's complement: the sign is moved to the top and back. Whoever reads a
-// record calls it with a field's width.
+// record or a header calls it with a field's width.
 pub fn signed_low(part: u16, width: u32) -> i16
     requires { ⌜ (1 ≤ width) × (width ≤ 16) ⌝ }
     ensures { λ r. ⌜ r ≡ twosComplement (2 ^ (width - 1)) (part % 2 ^ width) ⌝ }
@@ -61,7 +62,8 @@ pub fn signed_low(part: u16, width: u32) -> i16
     ((part as i32) << up >> up) as i16
 }
 
-// The number below `span` that stands for a signed one in two's complement.
+// The number below `span` that stands for a signed one in two's complement. Whoever writes a record or a header calls it with a
+// field's span.
 pub fn residue(value: i16, span: u16) -> u16
     requires { ⌜ (mag value < span) × (span ≤ 16384) ⌝ }
     ensures { λ r. ⌜ (r ≡ residue span value) × (r < span) ⌝ }
@@ -98,8 +100,8 @@ fn put_little(w: u64, bytes: &mut [u8], at: usize)
     bytes[at + 7] = (w / 72057594037927936) as u8;
 }
 
-// Stores the eight bytes of a number from `at` on, the most significant first. Whoever writes a record calls it with a place that
-// has eight bytes.
+// Stores the eight bytes of a number from `at` on, the most significant first. Whoever writes a record or a header calls it
+// with a place that has eight bytes.
 pub fn put_word(w: u64, bytes: &mut [u8], at: usize)
     requires { ⌜ at + 8 ≤ length (now bytes) ⌝ }
     ensures { λ _. ⌜ now (bytes .exit) ≡ stored (wordBytes w) (now (bytes .entry)) at ⌝ }

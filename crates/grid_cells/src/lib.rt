@@ -1,4 +1,5 @@
-// Cells of a grid: clearing them, and adding to three neighbours in a line. The particle-to-grid transfer calls these.
+// Cells of a grid: clearing them, and adding to three neighbours in a line. The particle-to-grid transfer calls these,
+// and the rim clears by them.
 ghost use mathlib.Core.Path.{_≡_};
 ghost use Prim.Native.Nat.{_+_, _<_};
 ghost use lib.ListN.{length, getD, set, replicate};

@@ -18,7 +18,7 @@ fn put_bytes(out: &mut [u8], at: usize, bytes: &[u8]) -> usize
     at + i
 }
 
-// A word with a space behind it, a number, and the byte that ends it.
+// A word with a space behind it, a number, and the byte that ends it. Crate report_lines calls it.
 pub fn put_named_natural(out: &mut [u8], at: usize, name: &[u8], n: u64, end: u8) -> usize
     requires { ⌜ Room (now out) at (now name ++ naturalText n end) ⌝ }
     ensures { λ r. ⌜ Put (now (out .entry)) at (now (name .entry) ++ naturalText n end) (now (out .exit)) r ⌝ }
@@ -40,7 +40,7 @@ fn put_piece(out: &mut [u8], at: usize, byte: u8, numbers: &[i64], k: usize) -> 
     numerals::put_byte(out, at, byte)
 }
 
-// A text with numbers in the places of its question marks.
+// A text with numbers in the places of its question marks. Crate report_lines calls it.
 pub fn put_filled(out: &mut [u8], at: usize, text: &[u8], numbers: &[i64]) -> usize
     requires { ⌜ Room (now out) at (filledIn (now text) (now numbers)) ⌝ }
     ensures { λ r. ⌜ Put (now (out .entry)) at (filledIn (now (text .entry)) (now (numbers .entry))) (now (out .exit)) r ⌝ }

@@ -4,6 +4,7 @@ use totals::Totals;
 ghost use Rattle.text.specs.Internal.{Room, Put};
 ghost use Rattle.report.specs.Lines.{refusedLine, doneLine, totalsLine, particleLine};
 
+// The line of a refused file. Crate report_text calls it.
 pub fn put_refused(out: &mut [u8], at: usize, refusal: u64, place: u64) -> usize
     requires { ⌜ Room (now out) at (refusedLine refusal place) ⌝ }
     ensures { λ r. ⌜ Put (now (out .entry)) at (refusedLine refusal place) (now (out .exit)) r ⌝ }
@@ -12,6 +13,7 @@ pub fn put_refused(out: &mut [u8], at: usize, refusal: u64, place: u64) -> usize
     phrases::put_named_natural(out, last, b"at ", place, text::LINE_FEED)
 }
 
+// The line of a run. Crate report_text calls it.
 pub fn put_done(out: &mut [u8], at: usize, completed: u64, refusal: u64, place: u64) -> usize
     requires { ⌜ Room (now out) at (doneLine completed refusal place) ⌝ }
     ensures { λ r. ⌜ Put (now (out .entry)) at (doneLine completed refusal place) (now (out .exit)) r ⌝ }
@@ -21,7 +23,7 @@ pub fn put_done(out: &mut [u8], at: usize, completed: u64, refusal: u64, place: 
     phrases::put_named_natural(out, second, b"at ", place, text::LINE_FEED)
 }
 
-// One more sum is one more name with its place, and one more number.
+// The line of the totals: one more sum is one more name with its place, and one more number. Crate report_text calls it.
 pub fn put_totals(out: &mut [u8], at: usize, t: Totals) -> usize
     requires { ⌜ Room (now out) at (totalsLine t) ⌝ }
     ensures { λ r. ⌜ Put (now (out .entry)) at (totalsLine t) (now (out .exit)) r ⌝ }
@@ -31,6 +33,7 @@ pub fn put_totals(out: &mut [u8], at: usize, t: Totals) -> usize
     phrases::put_filled(out, last, b"px ? py ? spin ? motion ?\n", &sums)
 }
 
+// The line of a record. Crate report_text calls it.
 pub fn put_particle(out: &mut [u8], at: usize, p: Particle) -> usize
     requires { ⌜ Room (now out) at (particleLine p) ⌝ }
     ensures { λ r. ⌜ Put (now (out .entry)) at (particleLine p) (now (out .exit)) r ⌝ }

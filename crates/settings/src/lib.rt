@@ -6,7 +6,7 @@ ghost use Rattle.limits.specs.Limits.{validWidth};
 ghost use Rattle.settings.specs.Settings.{still, edgeOf, settingsWith, validEdge};
 
 // The edge of the grid: open, or with a band of the outermost columns and rows, so many nodes wide. Nodes in a sticky edge's
-// band rest; those of a slip edge do not cross it.
+// band rest; nodes in a slip edge's rest on x in its columns and on y in its rows.
 pub enum Edge {
     Open,
     Sticky(usize),
