@@ -25,12 +25,12 @@
  * by its particles and not as refused.
  *
  *     kB                        refused        0        1    to 64   to 512 to 4,096
- *     gondwize_run                  3.2      4.3      4.3      4.3     23.0    152.0
- *     gondwize_run, no step         3.2      3.7      3.7      3.7     22.4    151.5
- *     gondwize_step                 3.2      4.3      4.3      4.3     23.0    152.0
- *     gondwize_scatter              2.1      2.1      2.1      2.1      2.1      2.1
+ *     gondwize_run                  3.2      4.3      4.3      4.3     23.0    152.1
+ *     gondwize_run, no step         3.2      4.3      4.3      4.3     23.0    152.1
+ *     gondwize_step                 3.2      4.3      4.3      4.3     23.0    152.1
+ *     gondwize_scatter              2.1      2.5      2.5      2.5      2.5      2.5
  *     gondwize_update               0.3      0.4
- *     gondwize_gather               1.6      3.6      3.6      3.6     77.4     77.4
+ *     gondwize_gather               1.6      3.9      3.9      3.9     77.8     77.8
  *     gondwize_check_set            0.3      0.3      0.3      0.3      0.3      0.3
  *     gondwize_totals               0.2      0.2      0.2      0.2      0.2      0.2
  *     gondwize_weights              0.2      0.2

@@ -1,25 +1,33 @@
--- The table of weights: what a table that passes the test of specs/Test.antt gives at each offset.
+-- The table of weights: what rows that pass the test of specs/Test.antt, which has the offsets from 0 to 32, give at all 64.
 --     RowFacts       at offset q: the weights are natural numbers, total 8192, and have moments 0 and 8192·D
 --     RowPassed      a row that passes holds the formulas' values, and its offset has these facts
---     passed-table   a table that passes is the table of the formulas' values
---     passed-facts   and each of its 64 offsets has the facts
---     row-facts      so the facts hold, since `table` passes; that the constant passes is the contract of `tested_table`
+--     mirror-passed  mirrored, it does so at −q
+--     rowFrom        row k of the 64, from the 33
+--     both-signs     each of the 64 passes where the 33 do
+--     passed-table   so they are the table of the formulas' values
+--     row-facts      and the facts hold at each offset, since the formulas' values at 0 to 32 pass; that the constant's numbers
+--                    do is the contract of `tested_rows`
 --     table-row      what stands at row k
 --     spline-kernel  the table with the spline's D is a kernel
 -- Assumes nothing.
 use mathlib.Core.Path.{_≡_, refl, sym, ap, subst, _∙_}
+use mathlib.Core.Bool.{Bool, true, false, cond}
 use mathlib.Core.List.{List, [], _∷_, map}
-use Prim.Native.Nat.{ℕ, zero, suc, _+_, _<_}
+use Prim.Native.Nat.{ℕ, zero, suc, _+_, _-_, _<_, _≤_}
 use native.Mathlib.Nat.{zero-add, add-suc, suc-add, add-zero, le-of-suc-le-suc, not-suc-le-zero}
 use native.Mathlib.Omega.{arith}
-use lib.Dec.{T, eqb, eqb→eq, lit≤}
+use lib.Dec.{T, eqb, ltb, eqb→eq, lit≤}
 use lib.ListN.{length, getD}
-use lib.IntN.{ℤ, pos, negsuc, natAbs, _+ℤ_, _-ℤ_, _*ℤ_}
+use lib.Seq.{ext-getD}
+use lib.IntN.{ℤ, pos, negsuc, natAbs, negℤ, _+ℤ_, _-ℤ_, _*ℤ_}
 use mir.Facts.{and-yes}
+use borrow.Author.Tests.{ltb-true, ltb-false}
+use Rattle.arith.specs.Solver.{ring, quote}
+use Rattle.arith.specs.Order.{linear, reading, nothing}
 use Rattle.arith.specs.Lists.{getD-tabulated}
-use Rattle.arith.specs.Sums.{from}
+use Rattle.arith.specs.Sums.{upTo}
 use Rattle.spline.specs.Spline.{D, lowerWeight, nearestWeight, upperWeight}
-use Rattle.spline.specs.Answers.{table, tableRow, rowOf}
+use Rattle.spline.specs.Answers.{table, tableRow, mirror, rowOf}
 use Rattle.spline.specs.Kernel.{RowMoments, Spread, Kernel}
 use Rattle.spline.specs.Test.{sameℤ, allSame, rowMoment, claims, rowPasses, passesFrom, passes}
 
@@ -96,47 +104,87 @@ row-passed q row t =
     three-of (a ∷ b ∷ c ∷ []) e = refl
     three-of (a ∷ b ∷ c ∷ d ∷ l) e = absurd (omega arith)
 
+-- ---- the other sign
+
+-- the first moment changes its sign, the second does not
+mirror-passed : (q : ℤ) (row : List ℕ) → RowPassed q row → RowPassed (negℤ q) (mirror row)
+mirror-passed q row p =
+    record {
+      is = ap mirror (p .is) ∙ (λ i. natAbs (lower i) ∷ natAbs (nearest i) ∷ natAbs (upper i) ∷ []);
+      facts =
+          record {
+            lower = subst (λ z. pos (natAbs z) ≡ z) lower (f .upper);
+            nearest = subst (λ z. pos (natAbs z) ≡ z) nearest (f .nearest);
+            upper = subst (λ z. pos (natAbs z) ≡ z) upper (f .lower);
+            total = ring (q ∷ []) (search quote depth 30) (search quote depth 30) tt ∙ f .total;
+            first = odd ∙ ap negℤ (f .first);
+            second = ring (q ∷ []) (search quote depth 30) (search quote depth 30) tt ∙ f .second;
+          };
+    }
+  where
+    f : RowFacts q
+    f = p .facts
+
+    lower : upperWeight q ≡ lowerWeight (negℤ q)
+    lower = ring (q ∷ []) (search quote depth 30) (search quote depth 30) tt
+
+    nearest : nearestWeight q ≡ nearestWeight (negℤ q)
+    nearest = ring (q ∷ []) (search quote depth 30) (search quote depth 30) tt
+
+    upper : lowerWeight q ≡ upperWeight (negℤ q)
+    upper = ring (q ∷ []) (search quote depth 30) (search quote depth 30) tt
+
+    odd : moment (negℤ q) (λ d. d) ≡ negℤ (moment q (λ d. d))
+    odd = ring (q ∷ []) (search quote depth 30) (search quote depth 30) tt
+
 -- ---- all rows
+
+-- row k of the 64, from those of offsets 0 to 32
+abbrev pub rowFrom : List (List ℕ) → ℕ → List ℕ
+rowFrom rows k = cond (ltb k 32) (mirror (getD rows (32 - k) [])) (getD rows (k - 32) [])
+
+-- rows from row i on
+passed-from : (rows : List (List ℕ)) (i k : ℕ) → T (passesFrom i rows) → k < length rows → RowPassed (pos (i + k)) (getD rows k [])
+passed-from [] i k t h = absurd (not-suc-le-zero h)
+passed-from (row ∷ rows) i zero t h =
+    let both = and-yes (rowPasses (pos i) row) (passesFrom (suc i) rows) t in
+    subst (λ m. RowPassed (pos m) row) (sym (add-zero i)) (row-passed (pos i) row (both .0))
+passed-from (row ∷ rows) i (suc k) t h =
+    let both = and-yes (rowPasses (pos i) row) (passesFrom (suc i) rows) t in
+    subst (λ m. RowPassed (pos m) (getD rows k [])) (suc-add i k ∙ sym (add-suc i k)) (passed-from rows (suc i) k (both .1) (le-of-suc-le-suc h))
 
 abbrev offsetOf : ℕ → ℤ
 offsetOf k = pos k -ℤ pos 32
 
--- rows from row i on
-from-passed : (rows : List (List ℕ)) (i : ℕ) → T (passesFrom i rows) → rows ≡ map (λ k. tableRow (offsetOf k)) (from i (length rows))
-from-passed [] i t = refl
-from-passed (row ∷ rows) i t =
-    let both = and-yes (rowPasses (offsetOf i) row) (passesFrom (suc i) rows) t in
-    λ j. row-passed (offsetOf i) row (both .0) .is j ∷ from-passed rows (suc i) (both .1) j
-
-facts-from : (rows : List (List ℕ)) (i k : ℕ) → T (passesFrom i rows) → k < length rows → RowFacts (offsetOf (i + k))
-facts-from [] i k t h = absurd (not-suc-le-zero h)
-facts-from (row ∷ rows) i zero t h =
-    let both = and-yes (rowPasses (offsetOf i) row) (passesFrom (suc i) rows) t in
-    subst (λ m. RowFacts (offsetOf m)) (sym (add-zero i)) (row-passed (offsetOf i) row (both .0) .facts)
-facts-from (row ∷ rows) i (suc k) t h =
-    let both = and-yes (rowPasses (offsetOf i) row) (passesFrom (suc i) rows) t in
-    subst (λ m. RowFacts (offsetOf m)) (suc-add i k ∙ sym (add-suc i k)) (facts-from rows (suc i) k (both .1) (le-of-suc-le-suc h))
+pub table-row : (k : ℕ) → k < 64 → getD table k [] ≡ tableRow (offsetOf k)
+table-row k h = getD-tabulated (λ m. tableRow (offsetOf m)) 64 k [] h
 
 module _ (rows : List (List ℕ)) (t : T (passes rows)) where
-  both : T (eqb (length rows) 64) × T (passesFrom 0 rows)
-  both = and-yes (eqb (length rows) 64) (passesFrom 0 rows) t
+  both : T (eqb (length rows) 33) × T (passesFrom 0 rows)
+  both = and-yes (eqb (length rows) 33) (passesFrom 0 rows) t
 
-  long : length rows ≡ 64
-  long = eqb→eq (length rows) 64 (both .0)
+  passed : (q : ℕ) → q < 33 → RowPassed (pos q) (getD rows q [])
+  passed q h = subst (λ m. RowPassed (pos m) (getD rows q [])) (zero-add q) (passed-from rows 0 q (both .1) (subst (λ n. q < n) (sym (eqb→eq (length rows) 33 (both .0))) h))
 
-  pub passed-table : rows ≡ table
-  passed-table = from-passed rows 0 (both .1) ∙ ap (λ n. map (λ k. tableRow (offsetOf k)) (from 0 n)) long
+  both-signs : (k : ℕ) → k < 64 → RowPassed (offsetOf k) (rowFrom rows k)
+  both-signs k h = go (ltb k 32) refl
+    where
+      go : (b : Bool) → ltb k 32 ≡ b → RowPassed (offsetOf k) (cond b (mirror (getD rows (32 - k) [])) (getD rows (k - 32) []))
+      go true e =
+          let low : k < 32 = ltb-true k 32 e in
+          subst (λ q. RowPassed q (mirror (getD rows (32 - k) []))) (linear [] nothing (search reading depth 30) (omega arith)) (mirror-passed (pos (32 - k)) (getD rows (32 - k) []) (passed (32 - k) (omega arith)))
+      go false e =
+          let high : 32 ≤ k = ltb-false k 32 e in
+          subst (λ q. RowPassed q (getD rows (k - 32) [])) (linear [] nothing (search reading depth 30) (omega arith)) (passed (k - 32) (omega arith))
 
-  pub passed-facts : (k : ℕ) → k < 64 → RowFacts (offsetOf k)
-  passed-facts k h = subst (λ m. RowFacts (offsetOf m)) (zero-add k) (facts-from rows 0 k (both .1) (subst (λ n. k < n) (sym long) h))
+  pub passed-table : (made : List (List ℕ)) → length made ≡ 64 → ((k : ℕ) → k < 64 → getD made k [] ≡ rowFrom rows k) → made ≡ table
+  passed-table made long is =
+      ext-getD [] made table long (λ k h. let below = subst (λ n. k < n) long h in is k below ∙ both-signs k below .is ∙ sym (table-row k below))
 
 -- ---- the table
 
 pub row-facts : (k : ℕ) → k < 64 → RowFacts (offsetOf k)
-row-facts k h = passed-facts table tt k h
-
-pub table-row : (k : ℕ) → k < 64 → getD table k [] ≡ tableRow (pos k -ℤ pos 32)
-table-row k h = getD-tabulated (λ m. tableRow (pos m -ℤ pos 32)) 64 k [] h
+row-facts k h = both-signs (map (λ q. tableRow (pos q)) (upTo 33)) tt k h .facts
 
 -- ---- as a kernel
 

@@ -40,5 +40,9 @@ tableRow q = natAbs (lowerWeight q) ∷ natAbs (nearestWeight q) ∷ natAbs (upp
 abbrev pub table : List (List ℕ)
 table = map (λ k. tableRow (pos k -ℤ pos 32)) (upTo 64)
 
+-- the row of the other sign: lower and upper weight exchanged
+abbrev pub mirror : List ℕ → List ℕ
+mirror row = getD row 2 0 ∷ getD row 1 0 ∷ getD row 0 0 ∷ []
+
 abbrev pub rowOf : List ℕ → AxisWeights
 rowOf r = record { lower = getD r 0 0; nearest = getD r 1 0; upper = getD r 2 0 }

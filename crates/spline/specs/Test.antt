@@ -1,5 +1,5 @@
--- The test of the table of weights, which the checker computes on its 192 numbers: at each of the 64 offsets the square
--- formulas, the row's sum and both moments.
+-- The test of the constant rows of weights, which the checker computes on their 99 numbers: at each offset from 0 to 32 the
+-- square formulas, the row's sum and both moments. At the other sign they hold of the mirrored row.
 -- Assumes nothing.
 use mathlib.Core.Bool.{Bool, true, false, _&&_}
 use mathlib.Core.List.{List, [], _∷_}
@@ -39,10 +39,10 @@ abbrev pub rowPasses : ℤ → List ℕ → Bool
 rowPasses q row =
     eqb (length row) 3 && allSame (claims q (pos (getD row 0 0)) (pos (getD row 1 0)) (pos (getD row 2 0)))
 
--- rows from row k on, which has offset k − 32
+-- rows from row q on, which has offset q
 abbrev pub passesFrom : ℕ → List (List ℕ) → Bool
-passesFrom k [] = true
-passesFrom k (row ∷ rows) = rowPasses (pos k -ℤ pos 32) row && passesFrom (suc k) rows
+passesFrom q [] = true
+passesFrom q (row ∷ rows) = rowPasses (pos q) row && passesFrom (suc q) rows
 
 abbrev pub passes : List (List ℕ) → Bool
-passes rows = eqb (length rows) 64 && passesFrom 0 rows
+passes rows = eqb (length rows) 33 && passesFrom 0 rows

@@ -2,7 +2,7 @@
 ghost use mathlib.Core.Path.{_≡_};
 ghost use Prim.Native.Nat.{_≤_};
 ghost use lib.Dec.{T};
-ghost use Rattle.spline.specs.Answers.{toldWeights, weightsAnswer, table};
+ghost use Rattle.spline.specs.Answers.{toldWeights, weightsAnswer, table, mirror};
 ghost use Rattle.spline.specs.Kernel.{weightsAt};
 ghost use Rattle.spline.specs.Test.{passes};
 use refusal::Refusal;
@@ -22,40 +22,8 @@ pub enum Weighed {
 // The weights' second moment for a total of 1, in squared position units: the D of the transfers.
 pub const D: u64 = 1024;
 
-// A row for each offset, from −32 on.
-const WEIGHTS: [[u16; 3]; 64] = [
-    [4096, 4096, 0],
-    [3969, 4222, 1],
-    [3844, 4344, 4],
-    [3721, 4462, 9],
-    [3600, 4576, 16],
-    [3481, 4686, 25],
-    [3364, 4792, 36],
-    [3249, 4894, 49],
-    [3136, 4992, 64],
-    [3025, 5086, 81],
-    [2916, 5176, 100],
-    [2809, 5262, 121],
-    [2704, 5344, 144],
-    [2601, 5422, 169],
-    [2500, 5496, 196],
-    [2401, 5566, 225],
-    [2304, 5632, 256],
-    [2209, 5694, 289],
-    [2116, 5752, 324],
-    [2025, 5806, 361],
-    [1936, 5856, 400],
-    [1849, 5902, 441],
-    [1764, 5944, 484],
-    [1681, 5982, 529],
-    [1600, 6016, 576],
-    [1521, 6046, 625],
-    [1444, 6072, 676],
-    [1369, 6094, 729],
-    [1296, 6112, 784],
-    [1225, 6126, 841],
-    [1156, 6136, 900],
-    [1089, 6142, 961],
+// A row for each offset from 0 to 32. That of the other sign is its mirror.
+const WEIGHTS: [[u16; 3]; 33] = [
     [1024, 6144, 1024],
     [961, 6142, 1089],
     [900, 6136, 1156],
@@ -88,20 +56,37 @@ const WEIGHTS: [[u16; 3]; 64] = [
     [9, 4462, 3721],
     [4, 4344, 3844],
     [1, 4222, 3969],
+    [0, 4096, 4096],
 ];
 
-// The numbers as they stand above, which pass the test of the table. `weight_table` calls it.
-fn tested_table() -> [[u16; 3]; 64]
+// The numbers as they stand above, which pass the test. `weight_table` calls it.
+fn tested_rows() -> [[u16; 3]; 33]
     ensures { λ r. ⌜ T (passes r) ⌝ }
 {
     WEIGHTS
 }
 
-// The table, for a caller that looks many weights up and lends it to `weights_at`.
+// The row of the other sign. `weight_table` calls it.
+fn mirrored(row: [u16; 3]) -> [u16; 3]
+    ensures { λ r. ⌜ r ≡ mirror row ⌝ }
+{
+    [row[2], row[1], row[0]]
+}
+
+// The table, for a caller that looks many weights up and lends it to `weights_at`. Row k is for offset k − 32: each turn makes
+// a row below 0, mirrored, and one from 0 on.
 pub fn weight_table() -> [[u16; 3]; 64]
     ensures { λ r. ⌜ r ≡ table ⌝ }
 {
-    tested_table()
+    let rows = tested_rows();
+    let mut table = [[0u16; 3]; 64];
+    let mut k = 0;
+    while k < 32 {
+        table[k] = mirrored(rows[32 - k]);
+        table[63 - k] = rows[31 - k];
+        k += 1;
+    }
+    table
 }
 
 // The weights of the three nodes around a particle at x, in the table that the caller lends: the row of its offset. The

@@ -5,7 +5,7 @@ use std::mem::MaybeUninit;
 use crate::refused;
 use crate::set::{check_length, pack, unpack, Room, MOST};
 use crate::settings::Settings;
-use crate::spline::TABLE;
+use crate::spline::table;
 use crate::transfer::{gather_all, scatter_all};
 use crate::update::{check_lengths, update_all};
 
@@ -26,7 +26,7 @@ fn run_set(
         .map_err(|refusal| (0, refusal))?
         .len();
     let (mut from, mut to) = (&mut from[..count], &mut to[..count]);
-    let table = &TABLE;
+    let table = &table();
     let mut stopped = None;
     let mut completed = 0;
     while completed < steps {

@@ -1,25 +1,39 @@
 //! The quadratic B-spline along one axis.
 
+use std::hint::black_box;
+use std::ops::{Add, Mul, Sub};
+
 use crate::refused;
 
-/// The weights of the lower, the nearest and the upper node, a row for each offset from −32 on.
-pub type Table = [[u16; 3]; 64];
+/// The weights of the lower, the nearest and the upper node for an offset.
+fn row<N>(q: N) -> [N; 3]
+where
+    N: Copy + From<i16> + Add<Output = N> + Sub<Output = N> + Mul<Output = N>,
+{
+    let [half, most, two] = [32, 6144, 2].map(N::from);
+    [
+        (half - q) * (half - q),
+        most - two * q * q,
+        (half + q) * (half + q),
+    ]
+}
 
-/// The table.
-pub static TABLE: Table = {
-    let mut table = [[0; 3]; 64];
-    let mut k = 0;
-    while k < 64 {
-        let q = k as i32 - 32;
-        table[k] = [
-            ((32 - q) * (32 - q)) as u16,
-            (6144 - 2 * q * q) as u16,
-            ((32 + q) * (32 + q)) as u16,
-        ];
-        k += 1;
+/// The weights of the lower, of the nearest and of the upper node, each for every offset from −32 on.
+pub type Table = [[i16; 64]; 3];
+
+/// The table, for calls that look many weights up.
+#[inline(never)]
+pub fn table() -> Table {
+    // Hidden from the compiler, which else makes constants of the weights.
+    let first = black_box(-32i16);
+    let mut table = [[0; 64]; 3];
+    for (k, q) in (0..64).zip(first..) {
+        for (column, weight) in table.iter_mut().zip(row(q)) {
+            column[k] = weight;
+        }
     }
     table
-};
+}
 
 /// Where a particle is along one axis: its nearest node, its offset from it and the weights.
 #[derive(Clone, Copy)]
@@ -34,11 +48,10 @@ impl Place {
     #[inline(always)]
     pub fn of(x: i32, table: &Table) -> Self {
         let shifted = (x + 32) as usize;
-        let row = &table[shifted % 64];
         Place {
             node: shifted / 64,
             q: (shifted % 64) as i64 - 32,
-            weights: [row[0].into(), row[1].into(), row[2].into()],
+            weights: [0, 1, 2].map(|column: usize| table[column][shifted % 64].into()),
         }
     }
 }
@@ -48,6 +61,20 @@ pub fn weights(q: i64, values: &mut [i64; 3]) -> u64 {
     if !(-32..=31).contains(&q) {
         return refused(7, 0);
     }
-    *values = TABLE[(q + 32) as usize].map(i64::from);
+    *values = row(q);
     0
+}
+
+#[cfg(test)]
+mod tests {
+    use super::{row, table};
+
+    #[test]
+    fn all_rows() {
+        let table = table();
+        for (k, q) in (0..64).zip(-32..) {
+            let filled = table.map(|column| i64::from(column[k]));
+            assert_eq!(filled, row(q), "{q}");
+        }
+    }
 }

@@ -5,7 +5,7 @@ use std::mem::MaybeUninit;
 use crate::particle::Particle;
 use crate::rounding::rounded;
 use crate::set::{check_length, check_size, last, pack, unpack, Room, MOST};
-use crate::spline::{Place, Table, TABLE};
+use crate::spline::{table, Place, Table};
 use crate::update::{check_lengths, is_slow};
 use crate::{answer, refused};
 
@@ -135,7 +135,7 @@ fn scatter_set(
 ) -> Result<(), u64> {
     let mut room: Room = [MaybeUninit::uninit(); MOST];
     let particles = unpack(nx, ny, records, &mut room)?;
-    scatter_all(particles, nx, &TABLE, mass, px, py);
+    scatter_all(particles, nx, &table(), mass, px, py);
     Ok(())
 }
 
@@ -176,7 +176,7 @@ fn gather_set(nx: usize, ny: usize, records: &mut [u8], ux: &[i64], uy: &[i64]) 
         }
     }
     let mut to: Room = [MaybeUninit::uninit(); MOST];
-    gather_all(particles, nx, ny, &TABLE, ux, uy, &mut to)?;
+    gather_all(particles, nx, ny, &table(), ux, uy, &mut to)?;
     // SAFETY: the gather has written as many.
     pack(unsafe { to[..particles.len()].assume_init_ref() }, records);
     Ok(())

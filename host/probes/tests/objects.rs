@@ -1,17 +1,9 @@
 //! Objects that the check must pass or refuse, assembled by gcc.
 
 use std::path::{Path, PathBuf};
-use std::process::Command;
 
 use probes::{look, Found};
-use program::{ended, Room};
-
-/// Runs a command in a folder.
-fn command(room: &Room, name: &str, words: &[&str]) -> String {
-    let told = ended(Command::new(name).args(words).current_dir(room.path("")));
-    assert_eq!(told.status, Some(0), "{name} {words:?}: {told:?}");
-    told.wrote
-}
+use program::Room;
 
 /// The path of an object's source.
 fn source(name: &str) -> String {
@@ -21,7 +13,7 @@ fn source(name: &str) -> String {
 /// Assembles one of the objects.
 fn assemble(room: &Room, name: &str) -> PathBuf {
     let object = format!("{name}.o");
-    command(room, "gcc", &["-c", &source(name), "-o", &object]);
+    room.command("gcc", &["-c", &source(name), "-o", &object]);
     room.path(&object)
 }
 
@@ -74,8 +66,8 @@ fn what_a_compiler_got_wrong_is_wrong() {
     let main = "#include <stdio.h>\nlong fault(long, long, long, long, long, long);\n\
                 int main(void) { printf(\"%ld %ld\", fault(2, 3, 2, 0, 11, 13), fault(2, 3, 5, 7, 11, 13)); }\n";
     room.write("main.c", main);
-    command(&room, "gcc", &["main.c", &source("fault"), "-o", "main"]);
-    let told = command(&room, "./main", &[]);
+    room.command("gcc", &["main.c", &source("fault"), "-o", "main"]);
+    let told = room.command("./main", &[]);
     let (early, late) = told.split_once(' ').expect("two numbers");
     assert_eq!(early, "9", "11 & 13, before the frame is made");
     assert_ne!(
@@ -109,11 +101,7 @@ fn archives_and_programs() {
     for name in ["at_entry", "fault", "later"] {
         assemble(&room, name);
     }
-    command(
-        &room,
-        "ar",
-        &["rcs", "all.a", "at_entry.o", "fault.o", "later.o"],
-    );
+    room.command("ar", &["rcs", "all.a", "at_entry.o", "fault.o", "later.o"]);
     let in_archive = look(&room.path("all.a")).expect("an archive");
     let names = |found: &Found| -> Vec<String> {
         found
@@ -126,15 +114,11 @@ fn archives_and_programs() {
     assert_eq!(names(&in_archive), ["fault", "later"]);
 
     room.write("main.c", "int main(void) { return 0; }\n");
-    command(
-        &room,
-        "gcc",
-        &["main.c", "at_entry.o", "fault.o", "-o", "main"],
-    );
+    room.command("gcc", &["main.c", "at_entry.o", "fault.o", "-o", "main"]);
     let in_program = look(&room.path("main")).expect("a program");
     assert_eq!(in_program.at_entry, 3);
     assert_eq!(names(&in_program), ["fault"]);
-    command(&room, "strip", &["main"]);
+    room.command("strip", &["main"]);
     let stripped = look(&room.path("main"));
     assert!(
         !stripped.is_ok_and(|found| found.broken.is_empty()),
@@ -149,7 +133,7 @@ fn what_is_no_code_is_an_error() {
     assert!(look(&nothing).is_err(), "a file that is missing");
     room.write("nothing", "text\n");
     assert!(look(&nothing).is_err(), "a text");
-    command(&room, "ar", &["rcs", "empty.a"]);
+    room.command("ar", &["rcs", "empty.a"]);
     assert!(look(&room.path("empty.a")).is_err(), "an empty archive");
     assert!(look(Path::new("/")).is_err(), "a folder");
 }

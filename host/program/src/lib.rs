@@ -102,6 +102,13 @@ impl Room {
         path
     }
 
+    /// Runs a command in it, which has to end well: what it wrote.
+    pub fn command(&self, name: &str, words: &[&str]) -> String {
+        let told = ended(Command::new(name).args(words).current_dir(&self.0));
+        assert_eq!(told.status, Some(0), "{name} {words:?}: {told:?}");
+        told.wrote
+    }
+
     /// Copies a file or a folder of the repository, with its times.
     pub fn copy(&self, name: &str) {
         self.copy_from(&root().join(name), name);
