@@ -22,7 +22,7 @@ pub enum Weighed {
 // The weights' second moment for a total of 1, in squared position units: the D of the transfers.
 pub const D: u64 = 1024;
 
-// A row for each offset from 0 to 32. That of the other sign is its mirror.
+// A row for each offset from 0 to 31, and that of 32, whose mirror is the row of −32. The other sign's are mirrors too.
 const WEIGHTS: [[u16; 3]; 33] = [
     [1024, 6144, 1024],
     [961, 6142, 1089],
@@ -104,7 +104,7 @@ pub fn weights_at(table: &[[u16; 3]; 64], x: usize) -> AxisWeights
 }
 
 // The weights of the three nodes around a particle at offset q from its nearest node, by their formulas. It does not look
-// the table up: an index into a constant builds the whole table.
+// the constant up: an index into one builds it whole.
 pub fn weights(q: i64) -> Weighed
     ensures { λ r. ⌜ toldWeights r ≡ weightsAnswer q ⌝ }
 {

@@ -6,8 +6,8 @@ use crate::weights::{KEPT, MIRRORED};
 use crate::Found;
 
 /// Where as many numbers stand that should not, they are of a table, which gives nearly all. Chance gives
-/// a few, such as 4096 beside 0, and some fifteen in a megabyte of code and data.
-pub const TABLE: usize = 32;
+/// a few, such as 4096 beside 0, and more in files of some megabytes.
+pub const TABLE: usize = 40;
 
 /// Where fewer of the kept numbers stand, the table has a form that is not known here, and nothing is
 /// shown.
@@ -171,8 +171,10 @@ mod tests {
             let backwards: Vec<u64> = (1..=32).flat_map(|q| row(-q)).collect();
             let backwards = bytes(&backwards, encoding);
             assert_eq!(verdict(&[&half, &cut(&backwards)]), ["64"], "{encoding:?}");
-            let some = bytes(&in_rows(-11..=-1), encoding);
-            assert_eq!(verdict(&[&half, &some]), ["64"], "{encoding:?}");
+            let fourteen = bytes(&in_rows(-14..=-1), encoding);
+            assert_eq!(verdict(&[&half, &fourteen]), ["64"], "{encoding:?}");
+            let eleven = bytes(&in_rows(-11..=-1), encoding);
+            assert!(verdict(&[&half, &eleven]).is_empty(), "{encoding:?}");
         }
     }
 

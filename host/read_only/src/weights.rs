@@ -4,9 +4,8 @@
 //! puts these in any order, and some numbers become operands in the code. So what is looked for are
 //! pairs: two numbers that are neighbours in the table, along a row, from a row's end to the next
 //! row's beginning, or along a column, side by side at any byte, in 16, 32 or 64 bits each and in
-//! either byte order. In code they may also stand alone, as the operands of two instructions, one
-//! after the other, that store them: along a row or to the next, in 16 or 32 bits, with the rest of an
-//! instruction between them.
+//! either byte order. In code they may also stand alone, in 16 or 32 bits, as the operands of two
+//! instructions, one after the other, that store them, with the rest of an instruction between them.
 //!
 //! A pair says which two numbers it is, and so of which half, but for three:
 //!
@@ -17,6 +16,7 @@
 //! - 1024 beside 961 is of the kept half alone: upper or lower of 0, and lower of 1.
 
 use std::collections::HashMap;
+use std::iter;
 use std::ops::RangeInclusive;
 
 /// The numbers of a row.
@@ -41,7 +41,7 @@ fn neighbours(first: usize) -> [usize; 2] {
 }
 
 /// The bytes between the operands of two instructions that store one.
-const BETWEEN: RangeInclusive<usize> = 2..=10;
+const BETWEEN: RangeInclusive<usize> = 3..=12;
 
 /// How numbers are written.
 #[derive(Clone, Copy, Debug, PartialEq, Eq)]
@@ -109,13 +109,15 @@ impl Encoded {
         };
         for (start, here) in bytes.windows(width).enumerate() {
             for &first in self.by_bytes.get(here).into_iter().flatten() {
-                let end = start + width;
-                let beside = neighbours(first).map(|second| (second, end));
-                let apart = BETWEEN.map(|between| (first + 1, end + between));
-                let places = beside.into_iter().chain(apart.filter(|_| operands));
-                for (second, next) in places.filter(|&(second, next)| is(second, next)) {
-                    stands(first, start);
-                    stands(second, next);
+                let beside = start + width;
+                let apart = BETWEEN.map(|between| beside + between);
+                for next in iter::once(beside).chain(apart.filter(|_| operands)) {
+                    for second in neighbours(first) {
+                        if is(second, next) {
+                            stands(first, start);
+                            stands(second, next);
+                        }
+                    }
                 }
             }
         }
@@ -286,6 +288,7 @@ mod tests {
             assert_eq!(places(&[6142, 6143]), [0, 0], "{store:?}");
             assert_eq!(places(&[961, 6142, 1089]), [3, 0], "{store:?}");
             assert_eq!(places(&[961, 6142, 1089, 900]), [4, 0], "{store:?}");
+            assert_eq!(places(&[6142, 6136, 6126]), [3, 0], "{store:?}");
             assert_eq!(
                 places(&[1089, 6142, 961, 7, 1089, 6142]),
                 [1, 2],

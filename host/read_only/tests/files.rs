@@ -86,10 +86,19 @@ fn objects() {
     fails(&room, "none.o", BLIND);
 }
 
-/// A function in C that stores every number of the rows by an instruction of its own.
-fn stores(name: &str, of: &str, offsets: RangeInclusive<i64>) -> String {
+/// The numbers of the rows, row by row and column by column.
+fn orders(offsets: RangeInclusive<i64>) -> [Vec<u64>; 2] {
+    let column = |k: usize| offsets.clone().map(move |q| row(q)[k]);
+    [
+        offsets.clone().flat_map(row).collect(),
+        (0..3).flat_map(column).collect(),
+    ]
+}
+
+/// A function in C that stores every number by an instruction of its own.
+fn stores(name: &str, of: &str, numbers: &[u64]) -> String {
     let stored = |(k, number)| format!("to[{k}] = {number};");
-    let stores: String = offsets.flat_map(row).enumerate().map(stored).collect();
+    let stores: String = numbers.iter().enumerate().map(stored).collect();
     format!("#include <stdint.h>\nvoid {name}(volatile {of} *to) {{ {stores} }}\n")
 }
 
@@ -97,16 +106,20 @@ fn stores(name: &str, of: &str, offsets: RangeInclusive<i64>) -> String {
 fn operands() {
     let room = Room::new("operands");
     for of in TYPES {
-        compile(&room, "half", &stores("half", of, HALF));
-        passes(&room, "half.o");
-        compile(&room, "whole", &stores("whole", of, WHOLE));
-        fails(&room, "whole.o", MORE);
-        let mirrored = table("half", "const uint16_t", HALF) + &stores("mirrored", of, -32..=-1);
-        compile(&room, "mirrored", &mirrored);
-        fails(&room, "mirrored.o", MORE);
-        let two = table("half", "const uint16_t", HALF) + &stores("two", of, HALF);
-        compile(&room, "two", &two);
-        fails(&room, "two.o", TWO);
+        let kept = table("half", "const uint16_t", HALF);
+        for (half, whole) in orders(HALF).iter().zip(orders(WHOLE)) {
+            compile(&room, "half", &stores("half", of, half));
+            passes(&room, "half.o");
+            compile(&room, "whole", &stores("whole", of, &whole));
+            fails(&room, "whole.o", MORE);
+            compile(&room, "two", &(kept.clone() + &stores("two", of, half)));
+            fails(&room, "two.o", TWO);
+        }
+        for mirrored in orders(-32..=-1) {
+            let both = kept.clone() + &stores("mirrored", of, &mirrored);
+            compile(&room, "mirrored", &both);
+            fails(&room, "mirrored.o", MORE);
+        }
     }
 }
 
