@@ -22,7 +22,7 @@ pub enum Weighed {
 // The weights' second moment for a total of 1, in squared position units: the D of the transfers.
 pub const D: u64 = 1024;
 
-// A row for each offset from 0 to 31, and that of 32, whose mirror is the row of −32. The other sign's are mirrors too.
+// The rows of offsets 0 to 31, and that of 32, which is no offset: a row's mirror is that of the other sign, and so it gives −32.
 const WEIGHTS: [[u16; 3]; 33] = [
     [1024, 6144, 1024],
     [961, 6142, 1089],
