@@ -32,7 +32,7 @@
  *     gondwize_update               0.3      0.4
  *     gondwize_gather               1.6      3.9      3.9      3.9     77.8     77.8
  *     gondwize_check_set            0.3      0.3      0.3      0.3      0.3      0.3
- *     gondwize_totals               0.2      0.2      0.2      0.2      0.2      0.2
+ *     gondwize_totals               0.3      0.3      0.3      0.3      0.3      0.3
  *     gondwize_weights              0.2      0.2
  *     gondwize_read_record          0.2      0.2
  *     gondwize_write_record         0.2      0.2
@@ -45,8 +45,8 @@
 #include <stddef.h>
 #include <stdint.h>
 
-#define GONDWIZE_VERSION "2.0.0"
-#define GONDWIZE_VERSION_MAJOR 2
+#define GONDWIZE_VERSION "3.0.0"
+#define GONDWIZE_VERSION_MAJOR 3
 #define GONDWIZE_VERSION_MINOR 0
 #define GONDWIZE_VERSION_PATCH 0
 
@@ -209,7 +209,9 @@ GONDWIZE_MUST_USE uint64_t gondwize_check_set(size_t nx, size_t ny,
 
 /*
  * The sums of a set. `values`: mass, px, py, spin (angular momentum about node (0, 0), affine part
- * included), motion. Refused as gondwize_check_set.
+ * included), motion: the sum of m*(1024*(vx*vx + vy*vy) + Bxx*Bxx + Bxy*Bxy + Byx*Byx + Byy*Byy),
+ * which is 0 exactly where every velocity and every entry of B is, and below 2^42 in every set.
+ * Refused as gondwize_check_set.
  */
 GONDWIZE_MUST_USE uint64_t gondwize_totals(size_t nx, size_t ny,
                                            const uint8_t *records, size_t records_length,

@@ -1,9 +1,9 @@
 /*
  * Holds the static library and its header to what the header says: every limit of a record, of a
  * header and of a run's settings at its edge and far beyond, those of a set, of a node and of an
- * offset at their edge and one beyond, what drag and edges leave of a node's velocity, refusals by
- * name and by text, empty slices, and a file that is written and read back. Exits with 1 where
- * something differs, and says where.
+ * offset at their edge and one beyond, what drag and edges leave of a node's velocity, totals,
+ * refusals by name and by text, empty slices, and a file that is written and read back. Exits with 1
+ * where something differs, and says where.
  */
 #include <inttypes.h>
 #include <stdio.h>
@@ -490,10 +490,31 @@ static void answers(void)
     same("text of 20", (uint64_t)strcmp(gondwize_refusal_text(20), "unknown refusal"), 0);
     same("number of an answer", GONDWIZE_NUMBER(UINT64_C(7) << 32 | 70000), 7);
     same("place of an answer", GONDWIZE_PLACE(UINT64_C(7) << 32 | 70000), 70000);
-    same("version", (uint64_t)strcmp(GONDWIZE_VERSION, "2.0.0"), 0);
+    same("version", (uint64_t)strcmp(GONDWIZE_VERSION, "3.0.0"), 0);
     same("length of a file", GONDWIZE_FILE_LENGTH(3), 53);
     same("length of the longest file", GONDWIZE_FILE_LENGTH(GONDWIZE_MOST_RECORDS), GONDWIZE_MOST_FILE_LENGTH);
     same("length of the longest set", GONDWIZE_MOST_SET_LENGTH, 57344);
+}
+
+/* ---- The totals of a particle that moves, of one that turns in place, and of one at rest. */
+
+static void totals(void)
+{
+    const int64_t particles[][6] = {{3, -2, 10, 200, -300, 41}, {0, 0, 0, -81, 81, 0}, {0, 0, 0, 0, 0, 0}};
+    const int64_t want[][GONDWIZE_TOTALS_VALUES] = {
+        {5, 15, -10, 5 * (70 * -2 - 90 * 3 - 300 - 200), 5 * (1024 * 13 + 100 + 40000 + 90000 + 1681)},
+        {5, 0, 0, 5 * 162, 5 * 2 * 6561},
+        {5, 0, 0, 0, 0},
+    };
+    for (int k = 0; k < 3; k++) {
+        const int64_t *p = particles[k];
+        uint8_t record[GONDWIZE_RECORD_LENGTH];
+        int64_t values[GONDWIZE_TOTALS_VALUES];
+        same("a record for totals", gondwize_write_record(7, 5, 70, 90, p[0], p[1], p[2], p[3], p[4], p[5],
+                                                          record, sizeof record), 0);
+        same("totals", gondwize_totals(4, 5, record, sizeof record, values), 0);
+        same("totals' values", (uint64_t)memcmp(values, want[k], sizeof values), 0);
+    }
 }
 
 /* ---- A file of three particles, the last beyond the grid, written and read. */
@@ -541,6 +562,7 @@ int main(void)
     velocities_left();
     offsets();
     empty_slices();
+    totals();
     answers();
     files();
     if (failures != 0)

@@ -32,12 +32,13 @@ use Rattle.limits.specs.Limits.{mostVelocity, mostAffine, mostTotalMass, mostNo
 use Rattle.spline.specs.Spline.{displacement}
 use Rattle.spline.specs.Kernel.{leastD, mostD, Spread}
 use Rattle.particle.specs.declared.Particle.{Particle}
-use Rattle.apic.specs.Step.{Axis, alongX, alongY, apart, weight, nodeMass, nodeMomentum, nodeVelocity, afterGravity}
+use Rattle.apic.specs.Step.{Axis, alongX, alongY, apart, weight, nodeMass, carried, nodeMomentum, nodeVelocity, afterGravity}
 use Rattle.apic.specs.Totals.{totalMass}
 use Rattle.apic.specs.Limits.{ParticleLimits, SetLimits}
+use Rattle.apic.specs.Motion.{Placed}
 use Rattle.apic.proofs.Nodes.{node-most}
-use Rattle.apic.proofs.Placed.{Placed, Whole}
-use Rattle.apic.proofs.Scatter.{carried, scatter-mass}
+use Rattle.apic.proofs.Quadratic.{Whole}
+use Rattle.apic.proofs.Scatter.{scatter-mass}
 use Rattle.apic.proofs.Update.{share-nonneg, node-mass-nonneg, massless, product-positive}
 
 -- how far apart a particle and a node with a weight are at most, along an axis: one and a half times the spacing

@@ -21,8 +21,9 @@ use Rattle.particle.specs.declared.Particle.{Particle}
 use Rattle.settings.specs.declared.Settings.{Settings}
 use Rattle.apic.specs.Step.{Axis, alongX, alongY, coordinate, nodeMass, gravity, afterUpdate, overNodes}
 use Rattle.apic.specs.Totals.{totalMass, momentum, angularMomentum, torque, nodeChange, impulse, angularImpulse, firstMoment}
+use Rattle.apic.specs.Motion.{Placed}
 use Rattle.apic.proofs.Nodes.{armed, nodes-cong, nodes-add, nodes-sub, nodes-scale}
-use Rattle.apic.proofs.Placed.{Placed, Whole}
+use Rattle.apic.proofs.Quadratic.{Whole}
 use Rattle.apic.proofs.Scatter.{place, fieldMomentum, fieldAngularMomentum, scatter-mass, scatter-moment}
 use Rattle.apic.proofs.Update.{Forced, forced-by-settings, update-linear, update-angular}
 use Rattle.apic.proofs.Gather.{along, allMoved, NewPlace, gather-linear, gather-angular}

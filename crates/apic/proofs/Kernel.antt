@@ -26,7 +26,7 @@ use Rattle.settings.specs.Settings.{ForceLimits}
 use Rattle.apic.specs.Step.{Axis, alongX, alongY, nodeMass, nodeMomentum, gravity, afterGravity, afterUpdate}
 use Rattle.apic.specs.Totals.{totalMass}
 use Rattle.apic.specs.Limits.{ParticleLimits}
-use Rattle.apic.proofs.Placed.{Placed}
+use Rattle.apic.specs.Motion.{Placed}
 use Rattle.apic.proofs.Update.{node-mass-nonneg}
 use Rattle.apic.proofs.Edges.{updated-less}
 use Rattle.apic.proofs.Bounds.{Near, Limited, mostMomentum, node-mass-total, node-momentum-total, gravity-within}

@@ -1,5 +1,5 @@
 pub mod Nodes
-pub mod Placed
+pub mod Quadratic
 pub mod Scatter
 pub mod Edges
 pub mod Update
@@ -9,3 +9,4 @@ pub mod Bounds
 pub mod Kernel
 pub mod Spline
 pub mod Fields
+pub mod Motion

@@ -1,9 +1,9 @@
 -- What the scatter keeps, exactly, for weights with the moments: one law for each total of the grid.
---     place, carried     a node's place; what a particle brings to a node for each unit of weighted mass
+--     place              a node's place
 --     fieldMomentum, fieldAngularMomentum
 --                        of the nodes of a scatter, moved by fields of velocities: Σ M·u, and Σ M·(X·uy − Y·ux)
 --     mass-sum           Σ m·1 is the total mass
---     scatter-sum        Σ over nodes of Σ over particles of m·W·(a quadratic in the offsets)
+--     particle-sum       Σ over particles of Σ over nodes of m·W·(a quadratic in the offsets); scatter-sum, over nodes first
 --     scatter-mass       Σ M = 2^26·mass
 --     scatter-moment     Σ M·X = 2^26·Σ m·x, on each axis
 --     scatter-linear     Σ of node momentum = 2^26·D·momentum, on each axis
@@ -17,20 +17,16 @@ use Rattle.arith.specs.Ring.{*ℤ-assoc, *ℤ-left-comm}
 use Rattle.arith.specs.Solver.{ring, quote}
 use Rattle.arith.specs.Sums.{Each, sumOver, sum-cong, sum-cong-each, sum-sub, sum-scale, total-pos}
 use Rattle.particle.specs.declared.Particle.{Particle}
-use Rattle.apic.specs.Step.{Axis, alongX, alongY, coordinate, velocity, affine, apart, weight, nodeMass, nodeMomentum, overNodes}
-use Rattle.apic.specs.Totals.{totalMass, momentum, angularMomentum}
+use Rattle.apic.specs.Step.{Axis, alongX, alongY, coordinate, velocity, affine, apart, weight, nodeMass, carried, nodeMomentum, overNodes}
+use Rattle.apic.specs.Totals.{totalMass, momentum, spinPerMass, angularMomentum}
+use Rattle.apic.specs.Motion.{Placed}
 use Rattle.apic.proofs.Nodes.{nodes-cong, nodes-scale, nodes-exchange}
-use Rattle.apic.proofs.Placed.{Placed, Quadratic, at, flat, node-quadratic}
+use Rattle.apic.proofs.Quadratic.{Quadratic, at, flat, node-quadratic}
 
 -- a node's place along an axis
 abbrev pub place : Axis → ℕ → ℕ → ℤ
 place alongX i j = pos (64 * i)
 place alongY i j = pos (64 * j)
-
--- what a particle brings to a node for each unit of weighted mass: D·v + Bx·dx + By·dy
-abbrev pub carried : ℕ → Axis → Particle → ℕ → ℕ → ℤ
-carried D a p i j =
-    pos D *ℤ velocity a p +ℤ affine a alongX p *ℤ apart alongX p i j +ℤ affine a alongY p *ℤ apart alongY p i j
 
 abbrev pub fieldMomentum : (ℕ → ℕ → ℤ) → ℕ → ℕ → List Particle → (ℕ → ℕ → ℤ) → ℤ
 fieldMomentum w nx ny ps u = overNodes nx ny (λ i j. nodeMass w ps i j *ℤ u i j)
@@ -69,21 +65,25 @@ mass-sum ps = sum-cong _ _ (λ p. times-one (pos (p .mass))) ps ∙ sym (total-p
     times-one m = ring (m ∷ []) (search quote depth 30) (search quote depth 30) tt
 
 module _ (w : ℕ → ℕ → ℤ) (D : ℕ) (nx ny : ℕ) (ps : List Particle) (on : Each (Placed w D nx ny) ps) where
-  pub scatter-sum : (f : Particle → ℕ → ℕ → ℤ) (q : Particle → Quadratic) (total : Particle → ℤ) → ((p : Particle) (i j : ℕ) → f p i j ≡ pos (p .mass) *ℤ weight w p i j *ℤ at (q p) (apart alongX p i j) (apart alongY p i j)) → ((p : Particle) → q p .constant +ℤ pos D *ℤ (q p .xx +ℤ q p .yy) ≡ total p) → overNodes nx ny (λ i j. sumOver ps (λ p. f p i j)) ≡ pos (2 ^ 26) *ℤ sumOver ps (λ p. pos (p .mass) *ℤ total p)
-  scatter-sum f q total h k =
-      nodes-exchange nx ny f ps
-      ∙ sum-cong-each (Placed w D nx ny) _ _ (λ p placed. share p placed) ps on
-      ∙ sum-scale (pos (2 ^ 26)) (λ p. pos (p .mass) *ℤ total p) ps
-    where
-      aside : (m t : ℤ) → m *ℤ (pos (2 ^ 26) *ℤ t) ≡ pos (2 ^ 26) *ℤ (m *ℤ t)
-      aside m t = ring (m ∷ t ∷ []) (search quote depth 30) (search quote depth 30) tt
+  -- f is m·W times a quadratic q in the offsets, for each unit of mass `total` in all
+  module _ (f : Particle → ℕ → ℕ → ℤ) (q : Particle → Quadratic) (total : Particle → ℤ) (h : (p : Particle) (i j : ℕ) → f p i j ≡ pos (p .mass) *ℤ weight w p i j *ℤ at (q p) (apart alongX p i j) (apart alongY p i j)) (k : (p : Particle) → q p .constant +ℤ pos D *ℤ (q p .xx +ℤ q p .yy) ≡ total p) where
+    aside : (m t : ℤ) → m *ℤ (pos (2 ^ 26) *ℤ t) ≡ pos (2 ^ 26) *ℤ (m *ℤ t)
+    aside m t = ring (m ∷ t ∷ []) (search quote depth 30) (search quote depth 30) tt
 
-      share : (p : Particle) → Placed w D nx ny p → overNodes nx ny (f p) ≡ pos (2 ^ 26) *ℤ (pos (p .mass) *ℤ total p)
-      share p placed =
-          nodes-cong nx ny _ _ (λ i j in-x in-y. h p i j ∙ *ℤ-assoc (pos (p .mass)) (weight w p i j) (at (q p) (apart alongX p i j) (apart alongY p i j)))
-          ∙ nodes-scale nx ny (pos (p .mass)) (λ i j. weight w p i j *ℤ at (q p) (apart alongX p i j) (apart alongY p i j))
-          ∙ ap (λ s. pos (p .mass) *ℤ s) (node-quadratic placed (q p) ∙ ap (λ s. pos (2 ^ 26) *ℤ s) (k p))
-          ∙ aside (pos (p .mass)) (total p)
+    share : (p : Particle) → Placed w D nx ny p → overNodes nx ny (f p) ≡ pos (2 ^ 26) *ℤ (pos (p .mass) *ℤ total p)
+    share p placed =
+        nodes-cong nx ny _ _ (λ i j in-x in-y. h p i j ∙ *ℤ-assoc (pos (p .mass)) (weight w p i j) (at (q p) (apart alongX p i j) (apart alongY p i j)))
+        ∙ nodes-scale nx ny (pos (p .mass)) (λ i j. weight w p i j *ℤ at (q p) (apart alongX p i j) (apart alongY p i j))
+        ∙ ap (λ s. pos (p .mass) *ℤ s) (node-quadratic placed (q p) ∙ ap (λ s. pos (2 ^ 26) *ℤ s) (k p))
+        ∙ aside (pos (p .mass)) (total p)
+
+    pub particle-sum : sumOver ps (λ p. overNodes nx ny (λ i j. f p i j)) ≡ pos (2 ^ 26) *ℤ sumOver ps (λ p. pos (p .mass) *ℤ total p)
+    particle-sum =
+        sum-cong-each (Placed w D nx ny) _ _ (λ p placed. share p placed) ps on
+        ∙ sum-scale (pos (2 ^ 26)) (λ p. pos (p .mass) *ℤ total p) ps
+
+    scatter-sum : overNodes nx ny (λ i j. sumOver ps (λ p. f p i j)) ≡ pos (2 ^ 26) *ℤ sumOver ps (λ p. pos (p .mass) *ℤ total p)
+    scatter-sum = nodes-exchange nx ny f ps ∙ particle-sum
 
   pub scatter-mass : overNodes nx ny (nodeMass w ps) ≡ pos (2 ^ 26) *ℤ pos (totalMass ps)
   unfolding nodeMass
@@ -120,10 +120,10 @@ module _ (w : ℕ → ℕ → ℤ) (D : ℕ) (nx ny : ℕ) (ps : List Particle) 
   unfolding nodeMomentum
   scatter-angular =
       nodes-cong nx ny _ _ (λ i j in-x in-y. inside i j)
-      ∙ scatter-sum turn quadratic (λ p. pos D *ℤ (pos (p .x) *ℤ p .vy -ℤ pos (p .y) *ℤ p .vx +ℤ p .byx -ℤ p .bxy)) share kept
+      ∙ scatter-sum turn quadratic (λ p. pos D *ℤ spinPerMass p) share kept
       ∙ ap (λ s. pos (2 ^ 26) *ℤ s)
-      (sum-cong _ _ (λ p. *ℤ-left-comm (pos (p .mass)) (pos D) (pos (p .x) *ℤ p .vy -ℤ pos (p .y) *ℤ p .vx +ℤ p .byx -ℤ p .bxy)) ps
-      ∙ sum-scale (pos D) (λ p. pos (p .mass) *ℤ (pos (p .x) *ℤ p .vy -ℤ pos (p .y) *ℤ p .vx +ℤ p .byx -ℤ p .bxy)) ps)
+      (sum-cong _ _ (λ p. *ℤ-left-comm (pos (p .mass)) (pos D) (spinPerMass p)) ps
+      ∙ sum-scale (pos D) (λ p. pos (p .mass) *ℤ spinPerMass p) ps)
     where
       given : Axis → Particle → ℕ → ℕ → ℤ
       given a p i j = pos (p .mass) *ℤ weight w p i j *ℤ carried D a p i j
@@ -153,7 +153,7 @@ module _ (w : ℕ → ℕ → ℤ) (D : ℕ) (nx ny : ℕ) (ps : List Particle) 
           product : (k D x y X Y vx vy bxx bxy byx byy : ℤ) → X *ℤ (k *ℤ (D *ℤ vy +ℤ byx *ℤ (X -ℤ x) +ℤ byy *ℤ (Y -ℤ y))) -ℤ Y *ℤ (k *ℤ (D *ℤ vx +ℤ bxx *ℤ (X -ℤ x) +ℤ bxy *ℤ (Y -ℤ y))) ≡ k *ℤ (D *ℤ (x *ℤ vy -ℤ y *ℤ vx) +ℤ (x *ℤ byx +ℤ D *ℤ vy -ℤ y *ℤ bxx) *ℤ (X -ℤ x) +ℤ (x *ℤ byy -ℤ D *ℤ vx -ℤ y *ℤ bxy) *ℤ (Y -ℤ y) +ℤ byx *ℤ ((X -ℤ x) *ℤ (X -ℤ x)) +ℤ (byy -ℤ bxx) *ℤ ((X -ℤ x) *ℤ (Y -ℤ y)) +ℤ negℤ bxy *ℤ ((Y -ℤ y) *ℤ (Y -ℤ y)))
           product k D x y X Y vx vy bxx bxy byx byy = ring (k ∷ D ∷ x ∷ y ∷ X ∷ Y ∷ vx ∷ vy ∷ bxx ∷ bxy ∷ byx ∷ byy ∷ []) (search quote depth 40 fits 40000) (search quote depth 40 fits 40000) tt
 
-      kept : (p : Particle) → quadratic p .constant +ℤ pos D *ℤ (quadratic p .xx +ℤ quadratic p .yy) ≡ pos D *ℤ (pos (p .x) *ℤ p .vy -ℤ pos (p .y) *ℤ p .vx +ℤ p .byx -ℤ p .bxy)
+      kept : (p : Particle) → quadratic p .constant +ℤ pos D *ℤ (quadratic p .xx +ℤ quadratic p .yy) ≡ pos D *ℤ spinPerMass p
       kept p = total (pos D) (pos (p .x) *ℤ p .vy -ℤ pos (p .y) *ℤ p .vx) (p .byx) (p .bxy)
         where
           total : (D c byx bxy : ℤ) → D *ℤ c +ℤ D *ℤ (byx +ℤ negℤ bxy) ≡ D *ℤ (c +ℤ byx -ℤ bxy)

@@ -19,16 +19,17 @@ use lib.IntN.{ℤ, pos, natAbs, _+ℤ_, _-ℤ_, _*ℤ_, +ℤ-idr, zero-*ℤ}
 use lib.Signed.{_≤ℤ_, _<ℤ_}
 use Rattle.arith.specs.Ring.{*ℤ-left-comm}
 use Rattle.arith.specs.Solver.{ring, quote}
-use Rattle.arith.specs.Order.{Within, linear, reading, _&_, ≤ℤ-of-<ℤ, ≤ℤ-antisym, ≤ℤ-total, pos-nonneg, nonneg-pos, *ℤ-nonneg, within-scale, within-cancel}
+use Rattle.arith.specs.Order.{Within, linear, reading, _&_, ≤ℤ-of-<ℤ, ≤ℤ-antisym, ≤ℤ-total, pos-nonneg, nonneg-pos, *ℤ-nonneg, within-scale, within-cancel, pos-positive}
 use Rattle.arith.specs.Rounding.{Nearest}
 use Rattle.arith.specs.Sums.{Each, sumOver, sum-nonneg, sum-zero, each-map}
 use Rattle.particle.specs.declared.Particle.{Particle}
 use Rattle.settings.specs.declared.Settings.{Settings}
-use Rattle.apic.specs.Step.{Axis, alongX, alongY, weight, nodeMass, nodeMomentum, nodeVelocity, gravity, afterGravity, afterUpdate, overNodes}
+use Rattle.apic.specs.Step.{Axis, alongX, alongY, weight, nodeMass, carried, nodeMomentum, nodeVelocity, gravity, afterGravity, afterUpdate, overNodes}
 use Rattle.apic.specs.Totals.{momentum, angularMomentum, nodeChange}
+use Rattle.apic.specs.Motion.{Placed}
 use Rattle.apic.proofs.Nodes.{armed, nodes-cong, nodes-sub, nodes-scale, nodes-within}
-use Rattle.apic.proofs.Placed.{Placed, Whole}
-use Rattle.apic.proofs.Scatter.{place, carried, fieldMomentum, fieldAngularMomentum, scatter-linear, scatter-angular}
+use Rattle.apic.proofs.Quadratic.{Whole}
+use Rattle.apic.proofs.Scatter.{place, fieldMomentum, fieldAngularMomentum, scatter-linear, scatter-angular}
 
 abbrev pub unforced : (ℤ → ℕ → ℤ) → (ℕ → ℕ → ℤ) → ℕ → Axis → List Particle → ℕ → ℕ → ℤ
 unforced round w D a ps = afterGravity round w D (pos 0) a ps
@@ -145,12 +146,9 @@ module _ (round : ℤ → ℕ → ℤ) (nearest : Nearest round) (w : ℕ → �
   -- Q is what the particles have of a sum R over the nodes: the divisor cancels
   cancelled : (t S R Q : ℤ) → R ≡ pos (2 ^ 26) *ℤ (pos D *ℤ Q) → Within (pos (D / 256) *ℤ t) (pos 2 *ℤ (pos (D / 256) *ℤ S -ℤ R)) → Within t (pos 2 *ℤ (S -ℤ pos (2 ^ 34) *ℤ Q))
   cancelled t S R Q e h =
-      within-cancel (positive (whole .some))
+      within-cancel (pos-positive (whole .some))
       (subst (Within (pos (D / 256) *ℤ t)) (ap (λ r. pos 2 *ℤ (pos (D / 256) *ℤ S -ℤ r)) (e ∙ ap (λ d. pos (2 ^ 26) *ℤ (pos d *ℤ Q)) (whole .times)) ∙ apart (pos (D / 256)) S Q) h)
     where
-      positive : {k : ℕ} → 0 < k → pos 0 <ℤ pos k
-      positive h = linear [] h (search reading depth 30) (omega arith)
-
       apart : (K S Q : ℤ) → pos 2 *ℤ (K *ℤ S -ℤ pos (2 ^ 26) *ℤ (pos 256 *ℤ K *ℤ Q)) ≡ K *ℤ (pos 2 *ℤ (S -ℤ pos (2 ^ 34) *ℤ Q))
       apart K S Q = ring (K ∷ S ∷ Q ∷ []) (search quote depth 30) (search quote depth 30) tt
 

@@ -1,3 +1,4 @@
 pub mod Step
 pub mod Totals
 pub mod Limits
+pub mod Motion

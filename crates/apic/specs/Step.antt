@@ -47,13 +47,14 @@ weight w p i j = w (p .x) i *ℤ w (p .y) j
 unfoldable pub nodeMass : (ℕ → ℕ → ℤ) → List Particle → ℕ → ℕ → ℤ
 nodeMass w ps i j = sumOver ps (λ p. pos (p .mass) *ℤ weight w p i j)
 
+-- D times the velocity that a particle carries to node (i, j) on axis a: D·va + Bax·dx + Bay·dy
+abbrev pub carried : ℕ → Axis → Particle → ℕ → ℕ → ℤ
+carried D a p i j =
+    pos D *ℤ velocity a p +ℤ affine a alongX p *ℤ apart alongX p i j +ℤ affine a alongY p *ℤ apart alongY p i j
+
 -- momentum on axis a = Σ m·w·(D·va + Bax·dx + Bay·dy) over all particles
 unfoldable pub nodeMomentum : (ℕ → ℕ → ℤ) → ℕ → Axis → List Particle → ℕ → ℕ → ℤ
-nodeMomentum w D a ps i j =
-    sumOver ps
-    (λ p.
-    pos (p .mass) *ℤ weight w p i j
-    *ℤ (pos D *ℤ velocity a p +ℤ affine a alongX p *ℤ apart alongX p i j +ℤ affine a alongY p *ℤ apart alongY p i j))
+nodeMomentum w D a ps i j = sumOver ps (λ p. pos (p .mass) *ℤ weight w p i j *ℤ carried D a p i j)
 
 -- ---- update
 

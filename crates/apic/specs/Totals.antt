@@ -1,4 +1,5 @@
--- Document 01, "Totals": the sums over a list of particles, gravity's torque in a step, and what drag and rim change.
+-- Document 01, "Totals", with document 02's motion: the sums over a list of particles, gravity's torque in a step, and what
+-- drag and rim change.
 -- Gravity is in 256ths, so its torque is what stands here divided by 256. Assumes nothing.
 use mathlib.Core.List.{List}
 use Prim.Native.Nat.{ℕ, _*_}
@@ -15,15 +16,23 @@ totalMass ps = totalOver ps (λ p. p .mass)
 abbrev pub momentum : Axis → List Particle → ℤ
 momentum a ps = sumOver ps (λ p. pos (p .mass) *ℤ velocity a p)
 
--- spin: the angular momentum about node (0, 0), affine part included
+-- one particle's angular momentum about node (0, 0) for each unit of its mass, affine part included
+abbrev pub spinPerMass : Particle → ℤ
+spinPerMass p = pos (p .x) *ℤ p .vy -ℤ pos (p .y) *ℤ p .vx +ℤ p .byx -ℤ p .bxy
+
+-- spin
 abbrev pub angularMomentum : List Particle → ℤ
-angularMomentum ps =
-    sumOver ps
-    (λ p. pos (p .mass) *ℤ (pos (p .x) *ℤ p .vy -ℤ pos (p .y) *ℤ p .vx +ℤ p .byx -ℤ p .bxy))
+angularMomentum ps = sumOver ps (λ p. pos (p .mass) *ℤ spinPerMass p)
+
+-- one particle's motion for each unit of its mass, its turning part in the second line; D is the weights' second moment
+abbrev pub motionPerMass : ℕ → Particle → ℤ
+motionPerMass D p =
+    pos D *ℤ (p .vx *ℤ p .vx +ℤ p .vy *ℤ p .vy)
+    +ℤ (p .bxx *ℤ p .bxx +ℤ p .bxy *ℤ p .bxy +ℤ p .byx *ℤ p .byx +ℤ p .byy *ℤ p .byy)
 
 -- motion
-abbrev pub motion : List Particle → ℤ
-motion ps = sumOver ps (λ p. pos (p .mass) *ℤ (p .vx *ℤ p .vx +ℤ p .vy *ℤ p .vy))
+abbrev pub motion : ℕ → List Particle → ℤ
+motion D ps = sumOver ps (λ p. pos (p .mass) *ℤ motionPerMass D p)
 
 -- gravity's torque in a step, times 256, over the places before it
 abbrev pub torque : ℤ → ℤ → List Particle → ℤ

@@ -2,9 +2,10 @@
 --     linear                        a linear fact from others, in one line (below)
 --     ≤ℤ-trans, ≤ℤ-antisym, ≤ℤ-of-eq, ≤ℤ-of-<ℤ, ≤ℤ-total                   the order
 --     leZ-true, leZ-false, ltZ-true, ltZ-false      what a test's flag tells; ≤ℤ-leZ, <ℤ-leZ     the flag from the fact
---     pos-mono, pos-cancel, pos-nonneg, nonneg-pos  the natural numbers among the integers
+--     pos-mono, pos-cancel, pos-nonneg, pos-positive, nonneg-pos     the natural numbers among the integers
 --     +ℤ-mono, difference-nonneg                    sums and differences
 --     *ℤ-nonneg, *ℤ-mono-left, *ℤ-cancel-left       products
+--     both-zero, factor-zero, square-nonneg, square-zero     a sum, a product and a square that are 0
 --     Within k z                    -k ≤ z ≤ k: within-sum, -difference, -scale, -cancel, -widen, -zero, -of
 -- In one line: `linear (x ∷ y ∷ []) (h & k) (search reading depth 30) (omega arith)` proves a goal `a ≤ℤ b`, `a <ℤ b`, `a ≡ b`, `Within k z` or `⊥`, or one between natural numbers, from h and k, which are such facts (`nothing` for none).
 -- The list holds what counts as an unknown: variables, or any other integers. What is made of these, of numerals and of `pos n` by +ℤ, -ℤ, negℤ and *ℤ is read; a product of unknowns is multiplied out, and its terms are unknowns.
@@ -14,10 +15,10 @@ use mathlib.Core.Path.{_≡_, refl, sym, ap, ap₂, _∙_, subst, subst₂}
 use mathlib.Core.Bool.{Bool, true, false, not}
 use mathlib.Core.List.{List, [], _∷_}
 use mathlib.Core.Logic.{_⊎_, inl, inr, ⊎-elim}
-use Prim.Native.Nat.{ℕ, zero, suc, _+_, _*_, _≤_}
+use Prim.Native.Nat.{ℕ, zero, suc, _+_, _*_, _≤_, _<_}
 use native.Mathlib.Omega.{arith}
 use lib.Dec.{T, leb, leb→le, le→leb, lt→ltb, leb·suc-suc, nleb→lt}
-use lib.IntN.{ℤ, pos, negsuc, sucℤ, predℤ, negℤ, _+ℤ_, _-ℤ_, _*ℤ_, +ℤ-idl, +ℤ-idr, +ℤ-one, +ℤ-sucℤ, +ℤ-predℤ, natAbs}
+use lib.IntN.{ℤ, pos, negsuc, sucℤ, predℤ, negℤ, _+ℤ_, _-ℤ_, _*ℤ_, +ℤ-idl, +ℤ-idr, +ℤ-one, +ℤ-sucℤ, +ℤ-predℤ, *ℤ-zero, natAbs}
 use lib.Signed.{leZ, ltZ, _≤ℤ_, _<ℤ_, ≤ℤ-refl, leZ-yes, ltZ-yes, clashℤ, yes-nonNeg, pos-natAbs}
 use Rattle.arith.specs.Ring.{ℤ-steps}
 use Rattle.arith.specs.Solver.{ring, quote}
@@ -328,6 +329,9 @@ difference-nonneg {a} {b} h = linear (a ∷ b ∷ []) h (search reading depth 30
 pub pos-nonneg : (n : ℕ) → pos 0 ≤ℤ pos n
 pos-nonneg n = pos-mono (omega arith)
 
+pub pos-positive : {n : ℕ} → zero < n → pos 0 <ℤ pos n
+pos-positive h = linear [] h (search reading depth 30) (omega arith)
+
 -- an integer that is not negative is a natural number
 pub nonneg-pos : {z : ℤ} → pos 0 ≤ℤ z → z ≡ pos (natAbs z)
 nonneg-pos {z} h = sym (pos-natAbs z (yes-nonNeg h))
@@ -347,6 +351,30 @@ pub *ℤ-cancel-left : {a b c : ℤ} → pos 0 <ℤ c → (c *ℤ a) ≤ℤ (c *
 
     never : (c *ℤ (b +ℤ pos 1)) ≤ℤ (c *ℤ a) → ⊥
     never m = linear (a ∷ b ∷ c ∷ []) (h & k & m) (search reading depth 30) (omega arith)
+
+-- ---- what is zero
+
+pub both-zero : {a b : ℤ} → pos 0 ≤ℤ a → pos 0 ≤ℤ b → a +ℤ b ≡ pos 0 → (a ≡ pos 0) × (b ≡ pos 0)
+both-zero {a} {b} h k e = (
+  linear (a ∷ b ∷ []) (h & k & e) (search reading depth 30) (omega arith),
+  linear (a ∷ b ∷ []) (h & k & e) (search reading depth 30) (omega arith),
+)
+
+pub factor-zero : {c z : ℤ} → pos 0 <ℤ c → c *ℤ z ≡ pos 0 → z ≡ pos 0
+factor-zero {c} h e =
+    ≤ℤ-antisym
+    (*ℤ-cancel-left h (≤ℤ-of-eq (e ∙ sym (*ℤ-zero c))))
+    (*ℤ-cancel-left h (≤ℤ-of-eq (*ℤ-zero c ∙ sym e)))
+
+pub square-nonneg : (z : ℤ) → pos 0 ≤ℤ (z *ℤ z)
+square-nonneg (pos n) = pos-nonneg (n * n)
+square-nonneg (negsuc n) = pos-nonneg (suc n * suc n)
+
+pub square-zero : {z : ℤ} → z *ℤ z ≡ pos 0 → z ≡ pos 0
+square-zero {z = pos zero} e = refl
+square-zero {z = pos (suc n)} e = factor-zero (pos-positive (omega arith)) e
+square-zero {z = negsuc n} e =
+    linear [] (factor-zero {c = pos (suc n)} {z = pos (suc n)} (pos-positive (omega arith)) e) (search reading depth 30) (omega arith)
 
 -- ---- allowances
 

@@ -92,7 +92,7 @@ pub extern "C" fn gondwize_totals(
 ) -> u64
     ensures { λ r. ⌜ Gives (totalsAnswer nx ny (now (records .entry))) sums (now (values .entry)) r (now (values .exit)) ⌝ }
 {
-    match totals::set_totals(nx, ny, records) {
+    match totals_set::set_totals(nx, ny, records) {
         Totalled::Refused(refusal) => answer::code(refusal),
         Totalled::Sums(t) => {
             *values = wide::of_totals(t);

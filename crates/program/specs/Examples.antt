@@ -36,8 +36,8 @@ abbrev pub wideFile : List ℕ
 wideFile = fileWith 0x10 0x00
 
 pub record Examples : Type 0 where
-  pub printed : programText printedFile ≡ bytesOf "done 1 refusal 0 at 0\nmass 2 px 6 py -4 spin -640 motion 26\n7 2 67 62 3 -2 0 0 0 0\n"
-  pub stopped : programText stoppedFile ≡ bytesOf "done 3 refusal 15 at 0\nmass 2 px 18 py -10 spin -3794 motion 212\n7 2 221 88 9 -5 0 0 0 0\n"
-  pub held : programText heldFile ≡ bytesOf "done 5 refusal 0 at 0\nmass 2 px 6 py -4 spin -1314 motion 26\n7 2 215 90 3 -2 -74 1 44 0\n"
+  pub printed : programText printedFile ≡ bytesOf "done 1 refusal 0 at 0\nmass 2 px 6 py -4 spin -640 motion 26624\n7 2 67 62 3 -2 0 0 0 0\n"
+  pub stopped : programText stoppedFile ≡ bytesOf "done 3 refusal 15 at 0\nmass 2 px 18 py -10 spin -3794 motion 217088\n7 2 221 88 9 -5 0 0 0 0\n"
+  pub held : programText heldFile ≡ bytesOf "done 5 refusal 0 at 0\nmass 2 px 6 py -4 spin -1314 motion 41450\n7 2 215 90 3 -2 -74 1 44 0\n"
   pub wide : programText wideFile ≡ bytesOf "refused 18 at 0\n"
   pub refused : programText (take 24 printedFile) ≡ bytesOf "refused 1 at 0\n"

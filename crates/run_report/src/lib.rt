@@ -22,7 +22,7 @@ fn totals_of(nx: usize, ny: usize, records: &[u8]) -> Totals
     requires { ⌜ totalsAnswer nx ny (now records) ≡ result (totalsOf (particlesIn (now records))) ⌝ }
     ensures { λ r. ⌜ r ≡ totalsOf (particlesIn (now (records .entry))) ⌝ }
 {
-    match totals::set_totals(nx, ny, records) {
+    match totals_set::set_totals(nx, ny, records) {
         Totalled::Sums(totals) => totals,
         Totalled::Refused(_) => Totals {
             mass: 0,

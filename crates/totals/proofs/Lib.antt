@@ -1,4 +1,2 @@
 pub mod Fields
-pub mod CheckedParticle
-pub mod Shares
-pub mod Turns
+pub mod Motion

@@ -1,2 +1,3 @@
 pub mod Totals
-pub mod Walk
+pub mod Share
+pub mod Motion

@@ -1,7 +1,8 @@
--- Document 01, "Totals": the sums over a particle set, and the operation's answer. Assumes nothing.
+-- Document 01, "Totals", with document 02's motion: the sums over a particle set, and the operation's answer. Assumes nothing.
 use mathlib.Core.List.{List}
 use Prim.Native.Nat.{ℕ}
 use Rattle.refusal.specs.Refused.{Answer, result, refusedBy, andThen}
+use Rattle.spline.specs.Spline.{D}
 use Rattle.particle.specs.declared.Particle.{Particle}
 use Rattle.apic.specs.Step.{alongX, alongY}
 use Rattle.apic.specs.Totals.{totalMass, momentum, angularMomentum, motion}
@@ -17,7 +18,7 @@ totalsOf ps =
       px = momentum alongX ps;
       py = momentum alongY ps;
       spin = angularMomentum ps;
-      motion = motion ps;
+      motion = motion D ps;
     }
 
 abbrev pub totalsAnswer : ℕ → ℕ → List ℕ → Answer Totals

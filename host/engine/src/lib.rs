@@ -176,7 +176,8 @@ pub struct Totals {
     pub py: i64,
     /// Angular momentum about node (0, 0), affine part included: sum of m·(x·vy − y·vx + Byx − Bxy).
     pub angular_momentum: i64,
-    /// Sum of m·(vx² + vy²).
+    /// Sum of m·(1024·(vx² + vy²) + Bxx² + Bxy² + Byx² + Byy²): 0 exactly where every velocity and
+    /// every entry of B is, and always below 2^42.
     pub motion: i64,
 }
 

@@ -124,11 +124,12 @@ fn summed(nx: usize, ny: usize, records: &[u8]) -> Result<[i64; 5], u64> {
         let m = i64::from(p.mass);
         let (x, y) = (p.x, p.y);
         let (vx, vy) = (p.vx, p.vy);
+        let turning = p.bxx * p.bxx + p.bxy * p.bxy + p.byx * p.byx + p.byy * p.byy;
         mass += m;
         px += m * i64::from(vx);
         py += m * i64::from(vy);
         spin += m * i64::from(x * vy - y * vx + p.byx - p.bxy);
-        motion += m * i64::from(vx * vx + vy * vy);
+        motion += m * i64::from(1024 * (vx * vx + vy * vy) + turning);
     })?;
     Ok([mass, px, py, spin, motion])
 }

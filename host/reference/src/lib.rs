@@ -1,5 +1,5 @@
 //! Two-dimensional APIC with the quadratic B-spline in whole numbers: the whole of document 01 with
-//! document 02's Paper 1, written from the documents, as literal sums over all particles and all
+//! document 02's Papers 1 and 3, written from the documents, as literal sums over all particles and all
 //! nodes.
 //!
 //! | module | operations |

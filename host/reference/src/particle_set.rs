@@ -1,7 +1,7 @@
 //! Particle sets: records one after another, and their totals.
 
 use crate::grid::Size;
-use crate::limits::{MAX_SET_LENGTH, MAX_TOTAL_MASS, RECORD_LENGTH};
+use crate::limits::{D, MAX_SET_LENGTH, MAX_TOTAL_MASS, RECORD_LENGTH};
 use crate::particle::{read_record, Particle};
 use crate::refusal::{require, Refusal, IDENTIFIER, LENGTH, PLACE, TOTAL_MASS};
 
@@ -58,7 +58,7 @@ pub struct Totals {
     pub py: i128,
     /// Angular momentum about node (0, 0), affine part included; document 01's spin.
     pub angular_momentum: i128,
-    /// Sum of m·(vx² + vy²).
+    /// Sum of m·(1024·(vx² + vy²) + Bxx² + Bxy² + Byx² + Byy²), document 02's motion.
     pub motion: i128,
 }
 
@@ -71,7 +71,11 @@ impl Totals {
             px: sum(|p| p.mass * p.vx),
             py: sum(|p| p.mass * p.vy),
             angular_momentum: sum(|p| p.mass * (p.x * p.vy - p.y * p.vx + p.byx - p.bxy)),
-            motion: sum(|p| p.mass * (p.vx.pow(2) + p.vy.pow(2))),
+            motion: sum(|p| {
+                let straight = p.vx.pow(2) + p.vy.pow(2);
+                let turning = p.bxx.pow(2) + p.bxy.pow(2) + p.byx.pow(2) + p.byy.pow(2);
+                p.mass * (D * straight + turning)
+            }),
         }
     }
 }
@@ -79,4 +83,46 @@ impl Totals {
 /// Totals of a set. Refused as check a set is.
 pub fn totals(size: Size, records: &[u8]) -> Result<Totals, Refusal> {
     Ok(Totals::of(&particles(size, records)?))
+}
+
+#[cfg(test)]
+mod tests {
+    use super::Totals;
+    use crate::limits::{D, SPACING, WEIGHT_TOTAL};
+    use crate::particle::Particle;
+    use crate::spline::axis_weight;
+
+    /// Motion is D times the sum, over each particle and node, of m·w/2^26 times the squared
+    /// velocity that the particle carries to the node.
+    #[test]
+    fn motion_is_carried_to_the_nodes() {
+        let particles = [
+            Particle::at_rest(1, 3, 96, 95)
+                .moving(-2, 4)
+                .with_b([10, 20, 30, 40]),
+            Particle::at_rest(2, 5, 351, 32)
+                .moving(63, -61)
+                .with_b([9, -8, 7, -6]),
+            Particle::at_rest(4, 1023, 200, 223)
+                .moving(0, 0)
+                .with_b([0, -2047, 2046, 0]),
+            Particle::at_rest(9, 1, 131, 160)
+                .moving(-63, 1)
+                .with_b([2047, 5, -3, -2000]),
+        ];
+        for k in 0..=particles.len() {
+            let mut carried = 0;
+            for p in &particles[..k] {
+                for (i, j) in (0..5).flat_map(|j| (0..7).map(move |i| (i, j))) {
+                    let (dx, dy) = (SPACING * i - p.x, SPACING * j - p.y);
+                    let vx = D * p.vx + p.bxx * dx + p.bxy * dy;
+                    let vy = D * p.vy + p.byx * dx + p.byy * dy;
+                    let weight = axis_weight(p.x, i) * axis_weight(p.y, j);
+                    carried += p.mass * weight * (vx.pow(2) + vy.pow(2));
+                }
+            }
+            let motion = Totals::of(&particles[..k]).motion;
+            assert_eq!(WEIGHT_TOTAL * D * motion, carried);
+        }
+    }
 }

@@ -1,4 +1,4 @@
-//! Document 01's examples, starred and not; the printed one with document 02's header.
+//! Document 01's examples, starred and not; the printed one with document 02's header and motion.
 
 use reference::particle_set::{pack_records, particles};
 use reference::{check_set, program, scatter, step, totals, update, weights};
@@ -87,7 +87,7 @@ fn printed_program_example() {
         0x00, 0x10, 0x01, 0xFE, 0x00, 0x00, 0x00, 0x00, 0x00, 0x00,
     ];
     let output = "done 1 refusal 0 at 0\n\
-                  mass 2 px 6 py -4 spin -640 motion 26\n\
+                  mass 2 px 6 py -4 spin -640 motion 26624\n\
                   7 2 67 62 3 -2 0 0 0 0\n";
     assert_eq!(program(&input).as_bytes(), output.as_bytes());
 }
@@ -159,7 +159,7 @@ fn totals_by_hand() {
         px: -6 + 5,
         py: 12,
         angular_momentum: 1530 - 525,
-        motion: 60 + 5,
+        motion: 3 * (1024 * 20 + 3000) + 5 * (1024 + 230),
     };
     assert_eq!(totals(SMALL, &records), Ok(expected));
     assert_eq!(totals(SMALL, &[]), Ok(Totals::default()));

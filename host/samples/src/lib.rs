@@ -38,6 +38,7 @@ pub fn samples() -> Vec<Sample> {
         full(),
         sticky(),
         drag(),
+        spinning(),
     ]
 }
 
@@ -87,6 +88,19 @@ fn refused() -> Sample {
     Sample {
         name: "refused",
         file: bath_file(still(8, 8), 100, &particles),
+    }
+}
+
+/// Three sections at rest, out of each other's reach, each of which spins about itself.
+fn spinning() -> Sample {
+    let particles = [
+        Particle::at_rest(3, 40, 150, 100).with_b([0, -300, 300, 0]),
+        Particle::at_rest(5, 25, 420, 90).with_b([0, 160, -160, 0]),
+        Particle::at_rest(8, 60, 290, 330).with_b([0, -48, 48, 0]),
+    ];
+    Sample {
+        name: "spinning",
+        file: bath_file(still(9, 8), 1_000, &particles),
     }
 }
 

@@ -163,9 +163,21 @@ fn drag_slows_what_would_leave() {
 }
 
 #[test]
+fn spinning_sections_have_motion() {
+    let (settings, before, after, answer) = run_sample("spinning");
+    assert_ne!(settings.size.nx, settings.size.ny);
+    assert_eq!((answer.completed, answer.refusal), (1_000, None));
+    assert_eq!((after.len(), moving(&after)), (3, 0));
+    assert_eq!(after, before);
+    let Totals { px, py, motion, .. } = Totals::of(&after);
+    assert_eq!((px, py), (0, 0));
+    assert_eq!(motion, 2 * (40 * 300 * 300 + 25 * 160 * 160 + 60 * 48 * 48));
+}
+
+#[test]
 fn small_ones_print_this() {
     let printed = "done 1 refusal 0 at 0\n\
-                   mass 2 px 6 py -4 spin -640 motion 26\n\
+                   mass 2 px 6 py -4 spin -640 motion 26624\n\
                    7 2 67 62 3 -2 0 0 0 0\n";
     assert_eq!(sample("printed").expected_output(), printed);
     let empty = "done 10 refusal 0 at 0\nmass 0 px 0 py 0 spin 0 motion 0\n";

@@ -100,5 +100,22 @@ fn totals_cases() -> Vec<Case> {
             "motion-without-momentum",
             &[lone(1).moving(5, -3), lone(2).moving(-5, 3)],
         ),
+        totals("motion-at-rest-of-b-alone", &[turning(1, 3)]),
+        totals(
+            "motion-of-each-entry",
+            &[
+                lone(1).moving(1, 0),
+                lone(2).moving(0, 4),
+                lone(3).with_b([9, 0, 0, 0]),
+                lone(4).with_b([0, 70, 0, 0]),
+                lone(5).with_b([0, 0, -500, 0]),
+                lone(6).with_b([0, 0, 0, -2000]),
+            ],
+        ),
+        totals(
+            "largest-motion",
+            &heaviest(corner.moving(-63, 63).with_b([2047, -2047, 2047, -2047])),
+        ),
+        totals("no-motion", &[lone(3), lone(8)]),
     ]
 }

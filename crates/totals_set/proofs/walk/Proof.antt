@@ -2,9 +2,9 @@
 use Prim.Native.Nat.{_-_}
 use native.Mathlib.Omega.{arith}
 use borrow.Author.Needs.{needs}
-use Rattle.totals.proofs.Turns.{Walking, walking-start, walking-next, walking-refused, walking-end}
-use Rattle.totals.proofs.walk.Statement.{statement}
-use Rattle.totals.proofs.walk.Tie as tie
+use Rattle.totals_set.proofs.Turns.{Walking, walking-start, walking-next, walking-refused, walking-end}
+use Rattle.totals_set.proofs.walk.Statement.{statement}
+use Rattle.totals_set.proofs.walk.Tie as tie
 
 abbrev Inv-loop : tie.InvT-loop
 Inv-loop nx ny bytes start count progress₀ k₀ progress k = Walking nx ny start bytes count progress k

@@ -1,9 +1,12 @@
--- `next_record` meets its contract: the reader's answer, taken apart. Assumes nothing.
+-- `next_record` meets its contract: the reader's answer, taken apart; a particle that it read is within its limits. Assumes nothing.
+use mathlib.Core.Path.{sym, ap, _∙_}
 use borrow.Author.Needs.{needs}
-use Rattle.totals.specs.Walk.{nextAnswer}
+use Rattle.particle.specs.Record.{toldRead}
+use Rattle.particle.proofs.RoundTrip.{read-held}
+use Rattle.totals_set.specs.Walk.{nextAnswer}
 use Rattle.particles.proofs.Turns.{found, not-found}
-use Rattle.totals.proofs.next_record.Statement.{statement}
-use Rattle.totals.proofs.next_record.Tie as tie
+use Rattle.totals_set.proofs.next_record.Statement.{statement}
+use Rattle.totals_set.proofs.next_record.Tie as tie
 
 mul-at : tie.Need-mul-at
 mul-at c = search needs
@@ -30,7 +33,10 @@ enum-known-p : tie.Need-enum-known-p
 enum-known-p c = search needs
 
 next-particle-requires : tie.Need-next-particle-requires
-next-particle-requires c κs = search needs
+next-particle-requires c κs =
+    let s = c .before .before .before .before .before .before in
+    let read = c .before .before .before .read-indexed in
+    (read-held (s .args .k) _ _ (sym (read .ensures) ∙ ap toldRead (c .before .p .given .1)) .valid, s .pre .0, s .pre .1, s .pre .2)
 
 enum-known-refusal : tie.Need-enum-known-refusal
 enum-known-refusal c = search needs

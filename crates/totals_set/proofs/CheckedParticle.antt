@@ -1,28 +1,32 @@
 -- One particle more: the walk's answer by the check's, and totals that stay small on the way.
 --     particle-passes, refuses          the answer of the set's checks, with the totals
---     small-plus, small-fits   sums of small totals are small, and fit
+--     share-small                       a share of a particle within its limits is small
+--     small-plus, small-fits            sums of small totals are small, and fit
 -- Assumes nothing.
 use mathlib.Core.Path.{_≡_, refl, sym, ap, _∙_}
 use Prim.Native.Nat.{ℕ, _+_, _*_, _≤_, _<_, _^_}
 use native.Mathlib.Omega.{arith}
-use lib.IntN.{ℤ, natAbs, _+ℤ_}
+use lib.IntN.{ℤ, pos, natAbs, _+ℤ_}
 use mir.Syntax.{w64}
 use mir.Val.{SFits}
 use Rattle.refusal.specs.Refused.{Answer, result, refused, refusedBy, andThen}
 use Rattle.refusal.specs.declared.Refusal.{Refusal}
 use Rattle.refusal.proofs.Answers.{same-result, not-result, not-refused, same-refusal}
-use Rattle.limits.specs.Limits.{mostRecords}
-use Rattle.arith.specs.Size.{bound-fits, natAbs-sum}
+use Rattle.limits.specs.Limits.{mostRecords, mostMass, mostPosition, mostVelocity, mostAffine}
+use Rattle.arith.specs.Size.{Bound, sizes, bounded, bound-pos, bound-fits, natAbs-sum}
 use Rattle.particle.specs.declared.Particle.{Particle}
+use Rattle.particle.specs.Record.{Valid}
 use Rattle.particles.specs.declared.Entry.{Entry}
 use Rattle.particles.specs.declared.Entered.{Entered}
 use Rattle.particles.specs.declared.Entered.the-variants as entered
 use Rattle.particles.specs.Set.{checkedParticle}
 use Rattle.particles.specs.Walk.{followed, toldEntered, checkParticle}
 use Rattle.particles.proofs.Checks.{checked-facts}
 use Rattle.totals.specs.declared.Totals.{Totals}
-use Rattle.totals.specs.declared.Progress.{Progress}
-use Rattle.totals.specs.Walk.{Small, SumFits, plus, share, advanced, nextAnswer}
+use Rattle.totals_set.specs.declared.Progress.{Progress}
+use Rattle.totals.specs.Share.{share, plus}
+use Rattle.totals_share.specs.Fits.{SumFits}
+use Rattle.totals_set.specs.Walk.{mostShare, Small, advanced, nextAnswer}
 
 module _ (nx ny k : ℕ) (s : Progress) (p : Particle) where
   abbrev so-far : Entry
@@ -47,24 +51,43 @@ module _ (nx ny k : ℕ) (s : Progress) (p : Particle) where
 
 -- ---- small totals
 
-sum-small : (a b : ℤ) (k m n : ℕ) → natAbs a ≤ m * k → natAbs b ≤ n * k → natAbs (a +ℤ b) ≤ (m + n) * k
-sum-small a b k m n ha hb = omega (arith, natAbs-sum a b)
+pub share-small : (p : Particle) → Valid p → Small 1 (share p)
+share-small p v =
+    let m : Bound (pos (p .mass)) mostMass = bound-pos (v .mass-to) in
+    let x : Bound (pos (p .x)) mostPosition = bound-pos (v .x-to) in
+    let y : Bound (pos (p .y)) mostPosition = bound-pos (v .y-to) in
+    let vx : Bound (p .vx) mostVelocity = record { size = v .vx-to } in
+    let vy : Bound (p .vy) mostVelocity = record { size = v .vy-to } in
+    let bxx : Bound (p .bxx) mostAffine = record { size = v .bxx-to } in
+    let bxy : Bound (p .bxy) mostAffine = record { size = v .bxy-to } in
+    let byx : Bound (p .byx) mostAffine = record { size = v .byx-to } in
+    let byy : Bound (p .byy) mostAffine = record { size = v .byy-to } in
+    record {
+      mass = omega (arith, v .mass-to);
+      px = bounded {z = share p .px} {n = 1 * mostShare} (search sizes depth 20) tt .size;
+      py = bounded {z = share p .py} {n = 1 * mostShare} (search sizes depth 20) tt .size;
+      spin = bounded {z = share p .spin} {n = 1 * mostShare} (search sizes depth 20) tt .size;
+      motion = bounded {z = share p .motion} {n = 1 * mostShare} (search sizes depth 20) tt .size;
+    }
+
+sum-small : (a b : ℤ) (m n : ℕ) → natAbs a ≤ m * mostShare → natAbs b ≤ n * mostShare → natAbs (a +ℤ b) ≤ (m + n) * mostShare
+sum-small a b m n ha hb = omega (arith, natAbs-sum a b)
 
 pub small-plus : (m n : ℕ) {s t : Totals} → Small m s → Small n t → Small (m + n) (plus s t)
 small-plus m n {s} {t} hs ht =
     record {
       mass = mass-small (s .mass) (t .mass) (hs .mass) (ht .mass);
-      px = sum-small (s .px) (t .px) 562949953421312 m n (hs .px) (ht .px);
-      py = sum-small (s .py) (t .py) 562949953421312 m n (hs .py) (ht .py);
-      spin = sum-small (s .spin) (t .spin) 562949953421312 m n (hs .spin) (ht .spin);
-      motion = sum-small (s .motion) (t .motion) 562949953421312 m n (hs .motion) (ht .motion);
+      px = sum-small (s .px) (t .px) m n (hs .px) (ht .px);
+      py = sum-small (s .py) (t .py) m n (hs .py) (ht .py);
+      spin = sum-small (s .spin) (t .spin) m n (hs .spin) (ht .spin);
+      motion = sum-small (s .motion) (t .motion) m n (hs .motion) (ht .motion);
     }
   where
-    mass-small : (a b : ℕ) → a ≤ m * 65535 → b ≤ n * 65535 → a + b ≤ (m + n) * 65535
+    mass-small : (a b : ℕ) → a ≤ m * mostMass → b ≤ n * mostMass → a + b ≤ (m + n) * mostMass
     mass-small a b ha hb = omega arith
 
-fits-small : (z : ℤ) (n : ℕ) → n ≤ mostRecords → natAbs z ≤ n * 562949953421312 → SFits w64 z
-fits-small z n h b = bound-fits {n = n * 562949953421312} (record { size = b }) (omega arith)
+fits-small : (z : ℤ) (n : ℕ) → n ≤ mostRecords → natAbs z ≤ n * mostShare → SFits w64 z
+fits-small z n h b = bound-fits {n = n * mostShare} (record { size = b }) (omega arith)
 
 pub small-fits : (n : ℕ) {s t : Totals} → n < mostRecords → Small n s → Small 1 t → SumFits s t
 small-fits n {s} {t} h hs ht =
@@ -77,5 +100,5 @@ small-fits n {s} {t} h hs ht =
       motion = fits-small (s .motion +ℤ t .motion) (n + 1) (omega arith) (both .motion);
     }
   where
-    room : (a : ℕ) → a ≤ (n + 1) * 65535 → a < 2 ^ 64
+    room : (a : ℕ) → a ≤ (n + 1) * mostMass → a < 2 ^ 64
     room a b = omega arith

@@ -1,5 +1,4 @@
--- A particle whose axis weights have the moments, and the sum over all nodes of a quadratic in the offsets under its weights.
---     Placed            the moments hold on both axes
+-- The sum over all nodes of a quadratic in the offsets, under the weights of a particle that is placed.
 --     Whole             D is 256 times a number above 0, so that a node's momentum, divided by mass and D/256, is in 256ths
 --     Quadratic, at     a quadratic in the offsets (dx, dy), and its value; flat: one without squares
 --     axis-quadratic    along one axis
@@ -15,11 +14,8 @@ use Rattle.spline.specs.Spline.{displacement}
 use Rattle.spline.specs.Moments.{Moments}
 use Rattle.particle.specs.declared.Particle.{Particle}
 use Rattle.apic.specs.Step.{weight, apart, alongX, alongY, overNodes}
+use Rattle.apic.specs.Motion.{Placed}
 use Rattle.apic.proofs.Nodes.{sum-three-scaled}
-
-pub record Placed (w : ℕ → ℕ → ℤ) (D : ℕ) (nx ny : ℕ) (p : Particle) : Type 0 where
-  pub along-x : Moments (pos D) nx (p .x) (w (p .x))
-  pub along-y : Moments (pos D) ny (p .y) (w (p .y))
 
 pub record Whole (D : ℕ) : Type 0 where
   pub some : 0 < D / 256

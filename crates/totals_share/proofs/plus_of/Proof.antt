@@ -8,10 +8,10 @@ use mir.Val.{SFits, toZ, ofZ, hbits}
 use mir.Facts.{toZ-ofZ}
 use borrow.Author.Needs.{needs, sfits-of}
 use Rattle.arith.specs.Machine.{fits₂, result₂}
 use Rattle.totals.specs.declared.Totals.{Totals}
 use Rattle.totals.proofs.Fields.{Typed, typed}
-use Rattle.totals.proofs.plus_of.Statement.{statement}
-use Rattle.totals.proofs.plus_of.Tie as tie
+use Rattle.totals_share.proofs.plus_of.Statement.{statement}
+use Rattle.totals_share.proofs.plus_of.Tie as tie
 
 -- a sum of two machine numbers
 module _ (a b : ℤ) (ha : mag a < 2 ^ hbits w64) (hb : mag b < 2 ^ hbits w64) (f : SFits w64 (a +ℤ b)) where

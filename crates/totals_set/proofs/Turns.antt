@@ -12,12 +12,13 @@ use Rattle.refusal.specs.declared.Refusal.{Refusal}
 use Rattle.particle.specs.declared.Particle.{Particle}
 use Rattle.particles.specs.Set.{setOf}
 use Rattle.particles.proofs.Turns.{Carried, folded, rest, Left, left-start, left-next, left-refused, left-end}
 use Rattle.totals.specs.declared.Totals.{Totals}
-use Rattle.totals.specs.declared.Progress.{Progress}
-use Rattle.totals.specs.declared.Next.{Next}
-use Rattle.totals.specs.declared.Next.the-variants as next
+use Rattle.totals_set.specs.declared.Progress.{Progress}
+use Rattle.totals_set.specs.declared.Next.{Next}
+use Rattle.totals_set.specs.declared.Next.the-variants as next
 use Rattle.totals.specs.Totals.{totalsOf}
-use Rattle.totals.specs.Walk.{share, plus, Small, SmallNext, advanced, toldNext, nextRecord, walked}
+use Rattle.totals.specs.Share.{share, plus}
+use Rattle.totals_set.specs.Walk.{Small, SmallNext, advanced, toldNext, nextRecord, walked}
 
 abbrev walking : Carried Progress Totals
 walking =

@@ -7,10 +7,10 @@ use borrow.Author.Needs.{needs}
 use borrow.Author.Tests.{not-true, not-false}
 use Rattle.refusal.specs.Refused.{result, andThen}
 use Rattle.particles.specs.Set.{validSize, validLength}
 use Rattle.totals.specs.Totals.{totalsOf}
 use Rattle.particles.proofs.Checks.{size-limits, length-limits, bad-size, bad-length, good-entry}
-use Rattle.totals.proofs.set_totals.Statement.{statement}
-use Rattle.totals.proofs.set_totals.Tie as tie
+use Rattle.totals_set.proofs.set_totals.Statement.{statement}
+use Rattle.totals_set.proofs.set_totals.Tie as tie
 
 size : (c : tie.Else1) → validSize (c .before .before .before .args .nx) (c .before .before .before .args .ny) ≡ true
 size c = sym (c .before .size-is-valid .ensures) ∙ not-false (c .before .size-is-valid .result) (c .if1 .left)

@@ -1,0 +1,33 @@
+-- The motion that Totals answers is that of an accepted set, with the laws of crate `apic`. Assumes nothing.
+use mathlib.Core.Path.{_≡_, subst}
+use mathlib.Core.List.{List}
+use Prim.Native.Nat.{ℕ}
+use native.Mathlib.Omega.{arith}
+use Rattle.refusal.specs.Refused.{result}
+use Rattle.refusal.proofs.Answers.{same-result, went-on}
+use Rattle.arith.specs.Sums.{each-map}
+use Rattle.particle.specs.declared.Particle.{Particle}
+use Rattle.apic.proofs.Motion.{spline-motion, motion-rest, motion-within, spline-below}
+use Rattle.particles.specs.Set.{setAnswer}
+use Rattle.particles.proofs.Accepted.{accepted-limits}
+use Rattle.totals.specs.Totals.{totalsOf}
+use Rattle.totals.specs.Motion.{MotionTells, TotalsMotion}
+
+tells : (nx ny : ℕ) (bytes : List ℕ) (ps : List Particle) → setAnswer nx ny bytes ≡ result ps → MotionTells nx ny bytes (totalsOf ps)
+tells nx ny bytes ps e =
+    let limits = accepted-limits nx ny bytes e in
+    let rest = motion-rest 1024 ps (omega arith) (each-map _ _ (λ p h. h .mass-least) ps (limits .each)) in
+    record {
+      particles = ps;
+      accepted = e;
+      carried = spline-motion nx ny ps (limits .each);
+      zero-rests = rest .zero-rests;
+      rest-zero = rest .rest-zero;
+      least = motion-within 1024 nx ny ps (limits .each) .0;
+      below = spline-below nx ny ps limits;
+    }
+
+pub totals-motion : TotalsMotion
+totals-motion nx ny bytes t e =
+    let set = went-on (setAnswer nx ny bytes) _ e in
+    subst (MotionTells nx ny bytes) (same-result (set .2)) (tells nx ny bytes (set .0) (set .1))

@@ -1,0 +1,2 @@
+pub mod CheckedParticle
+pub mod Turns
