@@ -143,13 +143,15 @@ per-mass-most D nx ny p h =
     bound-within {z = motionPerMass D p} {n = mostMotion D} (bounded-by (search sizes depth 20) (omega arith)) .high
 
 pub motion-within : MotionWithin
-motion-within D nx ny ps limits = (
-  motion-nonneg D ps,
-  subst (λ s. motion D ps ≤ℤ s) (sum-scale-right (pos (mostMotion D)) (λ p. pos (p .mass)) ps ∙ ap (λ m. m *ℤ pos (mostMotion D)) (sym (total-pos (λ p. p .mass) ps)))
-      (sum-mono (λ p. pos (p .mass) *ℤ motionPerMass D p) (λ p. pos (p .mass) *ℤ pos (mostMotion D)) ps
-      (each-map (ParticleLimits nx ny) (λ p. (pos (p .mass) *ℤ motionPerMass D p) ≤ℤ (pos (p .mass) *ℤ pos (mostMotion D))) (λ p h. *ℤ-mono-left (pos-nonneg (p .mass)) (per-mass-most D nx ny p h)) ps limits)),
-)
+motion-within D nx ny ps limits =
+    record {
+      least = motion-nonneg D ps;
+      most =
+          subst (λ s. motion D ps ≤ℤ s) (sum-scale-right (pos (mostMotion D)) (λ p. pos (p .mass)) ps ∙ ap (λ m. m *ℤ pos (mostMotion D)) (sym (total-pos (λ p. p .mass) ps)))
+          (sum-mono (λ p. pos (p .mass) *ℤ motionPerMass D p) (λ p. pos (p .mass) *ℤ pos (mostMotion D)) ps
+          (each-map (ParticleLimits nx ny) (λ p. (pos (p .mass) *ℤ motionPerMass D p) ≤ℤ (pos (p .mass) *ℤ pos (mostMotion D))) (λ p h. *ℤ-mono-left (pos-nonneg (p .mass)) (per-mass-most D nx ny p h)) ps limits));
+    }
 
 pub spline-below : SplineMotionBelow
 spline-below nx ny ps h =
-    linear (motion 1024 ps ∷ []) (motion-within 1024 nx ny ps (h .each) .1) (search reading depth 30) (omega (arith, h .mass))
+    linear (motion 1024 ps ∷ []) (motion-within 1024 nx ny ps (h .each) .most) (search reading depth 30) (omega (arith, h .mass))

@@ -67,9 +67,12 @@ MotionIsRest =
 abbrev pub mostMotion : ℕ → ℕ
 mostMotion D = 2 * mostVelocity ^ 2 * D + 4 * mostAffine ^ 2
 
+pub record MotionBounds (D : ℕ) (ps : List Particle) : Type 0 where
+  pub least : pos 0 ≤ℤ motion D ps
+  pub most : motion D ps ≤ℤ pos (totalMass ps * mostMotion D)
+
 abbrev pub MotionWithin : Type 0
-MotionWithin =
-    (D nx ny : ℕ) (ps : List Particle) → Each (ParticleLimits nx ny) ps → (pos 0 ≤ℤ motion D ps) × (motion D ps ≤ℤ pos (totalMass ps * mostMotion D))
+MotionWithin = (D nx ny : ℕ) (ps : List Particle) → Each (ParticleLimits nx ny) ps → MotionBounds D ps
 
 -- 24,889,348 for each unit of mass with D = 1024, and so below 2^42 for a set's mass
 abbrev pub SplineMotionBelow : Type 0

@@ -86,7 +86,7 @@ fn answer(k: usize, fast: bool, steep: bool, off: bool) -> Gathered
     Gathered::Done
 }
 
-// Checks record k, which came to (x, y) with these velocities.
+// Checks record k, which came to (x, y) with these velocities. Crate gather_particle calls it.
 pub fn check(
     k: usize,
     nx: usize,

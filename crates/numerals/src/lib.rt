@@ -9,6 +9,7 @@ ghost use Rattle.text.specs.Internal.{Room, Put, naturalText};
 
 const MINUS: u8 = 45;
 
+// A byte. Crate phrases and the functions below call it.
 pub fn put_byte(out: &mut [u8], at: usize, byte: u8) -> usize
     requires { ⌜ Room (now out) at (byte ∷ []) ⌝ }
     ensures { λ r. ⌜ Put (now (out .entry)) at (byte ∷ []) (now (out .exit)) r ⌝ }
@@ -36,7 +37,7 @@ fn put_digits(out: &mut [u8], at: usize, n: u64) -> usize
     put_byte(out, last, digit_of(n % 10))
 }
 
-// A number, and the byte that ends it.
+// A number, and the byte that ends it. Crate phrases calls it.
 pub fn put_natural(out: &mut [u8], at: usize, n: u64, end: u8) -> usize
     requires { ⌜ Room (now out) at (naturalText n end) ⌝ }
     ensures { λ r. ⌜ Put (now (out .entry)) at (naturalText n end) (now (out .exit)) r ⌝ }
@@ -56,7 +57,7 @@ pub fn magnitude(z: i64) -> u64
     }
 }
 
-// A number with its sign.
+// A number with its sign. Crate phrases calls it.
 pub fn put_integer(out: &mut [u8], at: usize, z: i64) -> usize
     requires { ⌜ Room (now out) at (signed z) ⌝ }
     ensures { λ r. ⌜ Put (now (out .entry)) at (signed z) (now (out .exit)) r ⌝ }

@@ -50,7 +50,7 @@ fn add_line(
 }
 
 // Adds a particle's shares to the nine nodes around node k of each grid. The B entries are times 64, the distance between
-// neighbours; sx and sy are for node k.
+// neighbours; sx and sy are for node k. Crate scatter_particle calls it.
 pub fn add_block(
     mass: &mut [u64],
     px: &mut [i64],

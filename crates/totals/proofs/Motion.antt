@@ -23,7 +23,7 @@ tells nx ny bytes ps e =
       carried = spline-motion nx ny ps (limits .each);
       zero-rests = rest .zero-rests;
       rest-zero = rest .rest-zero;
-      least = motion-within 1024 nx ny ps (limits .each) .0;
+      least = motion-within 1024 nx ny ps (limits .each) .least;
       below = spline-below nx ny ps limits;
     }
 

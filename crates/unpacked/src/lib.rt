@@ -9,7 +9,7 @@ use particle::Particle;
 // How many numbers a particle has in an array.
 pub const NUMBERS: usize = 9;
 
-// The number at a place of an array.
+// The number at a place of an array. Crates scatter_core and gather_core call it.
 pub fn number_at(array: &[i16], at: usize) -> i64
     requires { ⌜ at < length (now array) ⌝ }
     ensures { λ r. ⌜ r ≡ getD (now (array .entry)) at (pos 0) ⌝ }
@@ -17,7 +17,8 @@ pub fn number_at(array: &[i16], at: usize) -> i64
     array[at] as i64
 }
 
-// The number at a place where none is below zero: a mass or a coordinate.
+// The number at a place where none is below zero: a mass or a coordinate. `particle_at`, and crates scatter_core and gather_core
+// call it.
 pub fn natural_at(array: &[i16], at: usize) -> u16
     requires { ⌜ NaturalAt (now array) at ⌝ }
     ensures { λ r. ⌜ r ≡ natAbs (getD (now (array .entry)) at (pos 0)) ⌝ }
@@ -25,7 +26,7 @@ pub fn natural_at(array: &[i16], at: usize) -> u16
     array[at] as u16
 }
 
-// The particle with index k, under this identifier.
+// The particle with index k, under this identifier. Crate packing calls it.
 pub fn particle_at(array: &[i16], k: usize, identifier: u16) -> Particle
     requires { ⌜ ReadableAt (now array) k ⌝ }
     ensures { λ r. ⌜ ReadsAt (now (array .entry)) k identifier r ⌝ }
