@@ -13,22 +13,24 @@
  * Answers. Every function answers one number:
  *     0                        there is a result
  *     number * 2^32 + place    refused: the number of the limit that is broken, as in
- *                              GONDWIZE_REFUSALS, and the record (for 11 and 12 the node) counted
- *                              from 0, or 0 where there is none; GONDWIZE_NUMBER and GONDWIZE_PLACE
- *                              take it apart
+ *                              GONDWIZE_REFUSALS, and the record (for 11, 12, 20 and 21 the node)
+ *                              counted from 0, or 0 where there is none; GONDWIZE_NUMBER and
+ *                              GONDWIZE_PLACE take it apart
  * A refused call leaves everything as it was, unless said. Checks run in the order listed. A number
  * is refused and never cut where a limit is listed for it; a record's identifier has no limit, and is
  * a number of 16 bits.
  *
  * Stack. The most that a call needs, from its caller's frame down, by the number of its particles, in
- * kB of 1,000 bytes. A call that takes no set stands under 0; one that ends with 13, 14 or 15 counts
- * by its particles and not as refused.
+ * kB of 1,000 bytes. A call that takes no set stands under 0; one that ends with 13, 14, 15, 20 or 21
+ * counts by its particles and not as refused.
  *
  *     kB                        refused        0        1    to 64   to 512 to 4,096
  *     gondwize_run                  3.2      4.3      4.3      4.3     23.0    152.1
  *     gondwize_run, no step         3.2      4.3      4.3      4.3     23.0    152.1
  *     gondwize_step                 3.2      4.3      4.3      4.3     23.0    152.1
- *     gondwize_scatter              2.1      2.5      2.5      2.5      2.5      2.5
+ *     gondwize_scatter              0.5      2.6      2.6      2.6      2.6      2.6
+ *     gondwize_adding_scatter       8.2     67.5     67.5     67.5     67.5     67.5
+ *     .. to 320 nodes               8.2     10.5     10.5     10.5     10.5     10.5
  *     gondwize_update               0.3      0.4
  *     gondwize_gather               1.6      3.9      3.9      3.9     77.8     77.8
  *     gondwize_check_set            0.3      0.3      0.3      0.3      0.3      0.3
@@ -45,9 +47,9 @@
 #include <stddef.h>
 #include <stdint.h>
 
-#define GONDWIZE_VERSION "3.0.0"
+#define GONDWIZE_VERSION "3.1.0"
 #define GONDWIZE_VERSION_MAJOR 3
-#define GONDWIZE_VERSION_MINOR 0
+#define GONDWIZE_VERSION_MINOR 1
 #define GONDWIZE_VERSION_PATCH 0
 
 /* An answer that must be looked at, and an array of at least so many elements. */
@@ -93,7 +95,10 @@
 #define GONDWIZE_LEAST_OFFSET (-32)
 #define GONDWIZE_MOST_OFFSET 31
 
-/* Velocities, entries of B and gravity lie between the number here and its negative. */
+/*
+ * Velocities, entries of B and gravity lie between the number here and its negative, and so does the
+ * momentum of a node that is added to, for each unit of its mass.
+ */
 #define GONDWIZE_LEAST_MASS 1
 #define GONDWIZE_MOST_MASS 1023
 #define GONDWIZE_MOST_TOTAL_MASS 131072
@@ -103,6 +108,7 @@
 #define GONDWIZE_MOST_GRAVITY 4096
 #define GONDWIZE_MOST_STEPS 10000
 #define GONDWIZE_MOST_NODE_MASS (UINT64_C(1) << 43)
+#define GONDWIZE_MOST_PRESENT_MOMENTUM 457536
 #define GONDWIZE_MOST_NODE_VELOCITY 131072
 
 /*
@@ -144,7 +150,9 @@
     X(16, SPARE_BITS, "a file's spare bits are not zero") \
     X(17, STEPS, "more than 10000 steps") \
     X(18, EDGE, "the edge is neither open with width 0 nor sticky or slip with width 1 to 3") \
-    X(19, DRAG, "drag is above 255")
+    X(19, DRAG, "drag is above 255") \
+    X(20, PRESENT_NODE, "a present node's mass is above 2^43, or its momentum beyond 457536 times its mass") \
+    X(21, ADDED_MASS, "a node's mass would pass 2^43")
 
 /* GONDWIZE_REFUSED_LENGTH = 1 and so on. */
 #define GONDWIZE_REFUSAL_CONSTANT(number, name, text) GONDWIZE_REFUSED_##name = number,
@@ -235,6 +243,21 @@ GONDWIZE_MUST_USE uint64_t gondwize_scatter(size_t nx, size_t ny,
                                             uint64_t *mass, size_t mass_length,
                                             int64_t *px, size_t px_length,
                                             int64_t *py, size_t py_length);
+
+/*
+ * Particle-to-grid transfer onto what the grids hold: node masses and momenta of the set are added to
+ * those in `mass`, `px` and `py`. On grids of zeros it does what gondwize_scatter does. Parts of an
+ * accepted set that together have each record once, each part in the set's order, give the set's grids
+ * when they are added to grids of zeros, in any order, and none of them is refused. What this leaves
+ * gondwize_update does not refuse with 11 or 12.
+ * Refused: 2; 1, also for the grid buffers; the set; then for each node 20, which looks at what the
+ * grids hold, and 21, which looks at the sum.
+ */
+GONDWIZE_MUST_USE uint64_t gondwize_adding_scatter(size_t nx, size_t ny,
+                                                   const uint8_t *records, size_t records_length,
+                                                   uint64_t *mass, size_t mass_length,
+                                                   int64_t *px, size_t px_length,
+                                                   int64_t *py, size_t py_length);
 
 /*
  * Velocity takes the momentum's place in `px` and `py`: momentum / (4 * mass) rounded, plus gravity,

@@ -1,9 +1,9 @@
 /*
  * Holds the static library and its header to what the header says: every limit of a record, of a
- * header and of a run's settings at its edge and far beyond, those of a set, of a node and of an
- * offset at their edge and one beyond, what drag and edges leave of a node's velocity, totals,
- * refusals by name and by text, empty slices, and a file that is written and read back. Exits with 1
- * where something differs, and says where.
+ * header and of a run's settings at its edge and far beyond, those of a set, of a node, of a node that
+ * is added to and of an offset at their edge and one beyond, what drag and edges leave of a node's
+ * velocity, sets that are added in parts, totals, refusals by name and by text, empty slices, and a
+ * file that is written and read back. Exits with 1 where something differs, and says where.
  */
 #include <inttypes.h>
 #include <stdio.h>
@@ -383,6 +383,98 @@ static void nodes(void)
     }
 }
 
+/* ---- A node to which a particle adds, and one that no particle reaches, on 5 by 4 nodes. */
+
+enum { ADDING_NX = 5, ADDING_NY = 4, ADDING_NODES = ADDING_NX * ADDING_NY, ADDING_LAST = ADDING_NODES - 1 };
+
+/* What the particle adds to the mass of the last node, and to its momentum. */
+static const uint64_t added_mass = UINT64_C(3) * 1024 * 1024;
+static const int64_t added_velocity[2] = {1024 * 5 + 64 * (30 - 7), 1024 * -9 + 64 * (200 + 11)};
+
+static void adding_answers(size_t node, uint64_t m, int64_t x, int64_t y, enum gondwize_refusal number)
+{
+    uint8_t record[GONDWIZE_RECORD_LENGTH];
+    const uint64_t want = number == 0 ? 0 : refused(number, node);
+    const uint64_t more = number == 0 && node == ADDING_LAST ? added_mass : 0;
+    memset(mass, 0, sizeof mass);
+    memset(px, 0, sizeof px);
+    memset(py, 0, sizeof py);
+    mass[node] = m;
+    px[node] = x;
+    py[node] = y;
+    same("a record to add", gondwize_write_record(7, 3, 192, 128, 5, -9, 30, -7, 200, 11, record,
+                                                  sizeof record), 0);
+    same("adding", gondwize_adding_scatter(ADDING_NX, ADDING_NY, record, sizeof record, mass, ADDING_NODES,
+                                           px, ADDING_NODES, py, ADDING_NODES), want);
+    for (size_t k = 0; number != 0 && k < ADDING_NODES; k++)
+        if (k != node)
+            same("a refused call's other nodes", mass[k] | (uint64_t)px[k] | (uint64_t)py[k], 0);
+    same("added mass", mass[node], m + more);
+    same("added px", (uint64_t)px[node], (uint64_t)(x + (int64_t)more * added_velocity[0]));
+    same("added py", (uint64_t)py[node], (uint64_t)(y + (int64_t)more * added_velocity[1]));
+}
+
+static void added_nodes(void)
+{
+    const uint64_t most = GONDWIZE_MOST_NODE_MASS, full = most - added_mass;
+    const enum gondwize_refusal present = GONDWIZE_REFUSED_PRESENT_NODE, none = GONDWIZE_NOT_REFUSED;
+    const uint64_t masses[] = {0, 1, 3, full};
+    adding_answers(0, most, 0, 0, none);
+    adding_answers(0, most + 1, 0, 0, present);
+    adding_answers(0, UINT64_MAX, 0, 0, present);
+    adding_answers(ADDING_LAST, full, 0, 0, none);
+    adding_answers(ADDING_LAST, full + 1, 0, 0, GONDWIZE_REFUSED_ADDED_MASS);
+    adding_answers(ADDING_LAST, most, 0, 0, GONDWIZE_REFUSED_ADDED_MASS);
+    adding_answers(ADDING_LAST, most, INT64_MAX, 0, present);
+    adding_answers(ADDING_LAST, most + 1, 0, 0, present);
+    for (size_t k = 0; k < sizeof masses / sizeof *masses; k++) {
+        const uint64_t m = masses[k];
+        const int64_t edge = GONDWIZE_MOST_PRESENT_MOMENTUM * (int64_t)m;
+        for (size_t node = 0; node < ADDING_NODES; node += ADDING_LAST) {
+            adding_answers(node, m, edge, -edge, none);
+            adding_answers(node, m, -edge, edge, none);
+            adding_answers(node, m, edge + 1, 0, present);
+            adding_answers(node, m, -edge - 1, 0, present);
+            adding_answers(node, m, 0, edge + 1, present);
+            adding_answers(node, m, 0, -edge - 1, present);
+            adding_answers(node, m, INT64_MIN, 0, present);
+            adding_answers(node, m, 0, INT64_MAX, present);
+        }
+    }
+}
+
+/* Three records, cut in two at each, are added in either order. */
+static void added_parts(void)
+{
+    enum { COUNT = 3, LENGTH = COUNT * GONDWIZE_RECORD_LENGTH };
+    static uint64_t whole_mass[ADDING_NODES];
+    static int64_t whole_px[ADDING_NODES], whole_py[ADDING_NODES];
+    uint8_t records[LENGTH];
+    for (uint16_t k = 0; k < COUNT; k++)
+        same("a record of parts", gondwize_write_record(k, 1023, 100 + 9u * k, 150 - 20u * k, 5 * k - 9, 63,
+                                                        2047, -40 * k, 7, -2047,
+                                                        records + k * GONDWIZE_RECORD_LENGTH,
+                                                        GONDWIZE_RECORD_LENGTH), 0);
+    same("whole", gondwize_scatter(ADDING_NX, ADDING_NY, records, LENGTH, whole_mass, ADDING_NODES,
+                                   whole_px, ADDING_NODES, whole_py, ADDING_NODES), 0);
+    for (size_t cut = 0; cut <= LENGTH; cut += GONDWIZE_RECORD_LENGTH) {
+        for (int turn = 0; turn < 2; turn++) {
+            memset(mass, 0, sizeof mass);
+            memset(px, 0, sizeof px);
+            memset(py, 0, sizeof py);
+            for (int k = 0; k < 2; k++) {
+                const int last = k != turn;
+                same("part", gondwize_adding_scatter(ADDING_NX, ADDING_NY, records + (last ? cut : 0),
+                                                     last ? LENGTH - cut : cut, mass, ADDING_NODES,
+                                                     px, ADDING_NODES, py, ADDING_NODES), 0);
+            }
+            same("mass of parts", (uint64_t)memcmp(mass, whole_mass, sizeof whole_mass), 0);
+            same("px of parts", (uint64_t)memcmp(px, whole_px, sizeof whole_px), 0);
+            same("py of parts", (uint64_t)memcmp(py, whole_py, sizeof whole_py), 0);
+        }
+    }
+}
+
 /* ---- What drag and edge leave of velocities that are the same at all nodes. */
 
 static void velocity_left(size_t kind, size_t width, size_t drag, int64_t x, int64_t y)
@@ -458,6 +550,10 @@ static void empty_slices(void)
     same("scatter's mass", gondwize_scatter(4, 4, NULL, 0, NULL, 0, x, 16, y, 16), length);
     same("scatter's px", gondwize_scatter(4, 4, NULL, 0, mass, 16, NULL, 0, y, 16), length);
     same("scatter's py", gondwize_scatter(4, 4, NULL, 0, mass, 16, x, 16, NULL, 0), length);
+    same("adding_scatter", gondwize_adding_scatter(4, 4, NULL, 0, mass, 16, x, 16, y, 16), 0);
+    same("adding_scatter's mass", gondwize_adding_scatter(4, 4, NULL, 0, NULL, 0, x, 16, y, 16), length);
+    same("adding_scatter's px", gondwize_adding_scatter(4, 4, NULL, 0, mass, 16, NULL, 0, y, 16), length);
+    same("adding_scatter's py", gondwize_adding_scatter(4, 4, NULL, 0, mass, 16, x, 16, NULL, 0), length);
     same("update's mass", gondwize_update(4, 4, 0, 0, 0, 0, 0, NULL, 0, x, 16, y, 16), length);
     same("update's px", gondwize_update(4, 4, 0, 0, 0, 0, 0, mass, 16, NULL, 0, y, 16), length);
     same("update's py", gondwize_update(4, 4, 0, 0, 0, 0, 0, mass, 16, x, 16, NULL, 0), length);
@@ -487,10 +583,10 @@ static void answers(void)
     GONDWIZE_REFUSALS(CHECKED)
 #undef CHECKED
     same("text of 0", (uint64_t)strcmp(gondwize_refusal_text(0), "not refused"), 0);
-    same("text of 20", (uint64_t)strcmp(gondwize_refusal_text(20), "unknown refusal"), 0);
+    same("text of 22", (uint64_t)strcmp(gondwize_refusal_text(22), "unknown refusal"), 0);
     same("number of an answer", GONDWIZE_NUMBER(UINT64_C(7) << 32 | 70000), 7);
     same("place of an answer", GONDWIZE_PLACE(UINT64_C(7) << 32 | 70000), 70000);
-    same("version", (uint64_t)strcmp(GONDWIZE_VERSION, "3.0.0"), 0);
+    same("version", (uint64_t)strcmp(GONDWIZE_VERSION, "3.1.0"), 0);
     same("length of a file", GONDWIZE_FILE_LENGTH(3), 53);
     same("length of the longest file", GONDWIZE_FILE_LENGTH(GONDWIZE_MOST_RECORDS), GONDWIZE_MOST_FILE_LENGTH);
     same("length of the longest set", GONDWIZE_MOST_SET_LENGTH, 57344);
@@ -559,6 +655,8 @@ int main(void)
     places();
     total_mass();
     nodes();
+    added_nodes();
+    added_parts();
     velocities_left();
     offsets();
     empty_slices();

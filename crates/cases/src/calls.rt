@@ -67,6 +67,21 @@ fn scatter(bytes: &[u8]) {
     print::grids(&mass, &x, &y);
 }
 
+fn adding_scatter(bytes: &[u8]) {
+    let mut mass = [0; NODES];
+    let mut x = [0; NODES];
+    let mut y = [0; NODES];
+    print::answer(gondwize::gondwize_adding_scatter(
+        size(),
+        size(),
+        bytes,
+        naturals(&mut mass),
+        integers(&mut x),
+        integers(&mut y),
+    ));
+    print::grids(&mass, &x, &y);
+}
+
 fn update() {
     let mut mass = [0; NODES];
     let mut x = [0; NODES];
@@ -173,6 +188,7 @@ fn looking(name: u64, bytes: &[u8]) {
         names::CHECK => check_set(bytes),
         names::TOTALS => totals(bytes),
         names::SCATTER => scatter(bytes),
+        names::ADDING => adding_scatter(bytes),
         names::UPDATE => update(),
         names::FILE => read_file(bytes),
         _ => {}

@@ -13,6 +13,8 @@ pub const TOTALS: u64 = 0x746f74616c73;
 
 pub const SCATTER: u64 = 0x73636174746572;
 
+pub const ADDING: u64 = 0x616464696e67;
+
 pub const UPDATE: u64 = 0x757064617465;
 
 pub const GATHER: u64 = 0x676174686572;

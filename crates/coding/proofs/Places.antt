@@ -13,7 +13,7 @@ use lib.ListN.{length, getD, take, length-map}
 use borrow.Author.Tests.{not-false}
 use Rattle.refusal.specs.Refused.{Answer, result, refused, refuseIf, andThen, forEach, toldOf}
 use Rattle.refusal.proofs.Answers.{went-on, same-result}
-use Rattle.limits.specs.Limits.{mostSide, mostRecords, mostTotalMass, mostNodeVelocity, mostGravity, mostDrag, mostSteps, validMass, validGravity}
+use Rattle.limits.specs.Limits.{mostSide, mostRecords, mostTotalMass, mostNodeMass, mostNodeVelocity, mostGravity, mostDrag, mostSteps, validMass, validGravity}
 use Rattle.spline.specs.Spline.{axisWeight, D}
 use Rattle.particle.specs.declared.Particle.{Particle}
 use Rattle.particle.specs.Layout.{recordLength}
@@ -33,7 +33,8 @@ use Rattle.entry.specs.declared.Buffers.the-variants.{Two, Three}
 use Rattle.entry.specs.Checks.{areLong, bothWithin}
 use Rattle.entry.specs.Entry.{checkedForces, beginAnswer, entryAnswer}
 use Rattle.entry.proofs.Entry.{passed-checks, accepted}
-use Rattle.transfer.specs.Transfer.{velocityCheck, velocityChecks, checkedSet, gatherAnswer}
+use Rattle.transfer.specs.Transfer.{scatterOf, velocityCheck, velocityChecks, checkedSet, gatherAnswer}
+use Rattle.adding.specs.Adding as adding
 use Rattle.settings.specs.declared.Settings.{Settings}
 use Rattle.simulation.specs.Step.{buffersOf, nodesOf, moveBy, steppedBy, stepOf, stepBy, stepEntry, stepFrom, stepAfter}
 use Rattle.simulation.specs.Run.{runFrom, runBy, runEntry, runAfter}
@@ -183,6 +184,25 @@ module _ (s : Settings) (mass : List ℕ) (px py : List ℤ) where
       (nodes-few (size-limits (s .nx) (s .ny) (passed-checks s three 0 0 e .0 .size))))
 
 -- ---- transfers
+
+module _ (nx ny : ℕ) (records : List ℕ) (g : Grids) where
+  abbrev lent : Buffers
+  lent = Three (length (g .mass)) (length (g .x)) (length (g .y))
+
+  present : (gain : List ℕ) (k : ℕ) → k < 4294967296 → Placed (adding.checkNodeAt g gain k)
+  unfolding adding.checkNode
+  present gain k h =
+      check (not (adding.validPresent (getD (g .mass) k 0) (getD (g .x) k (pos 0)) (getD (g .y) k (pos 0)))) 20 k _ h
+      (λ _. check (ltb mostNodeMass (getD (g .mass) k 0 + getD gain k 0)) 21 k _ h (λ _. accepts))
+
+  pub added : Placed (adding.addingAnswer nx ny records g)
+  unfolding adding.addingAnswer adding.addedGrids adding.checkNodes
+  added =
+      next (entryAnswer (still nx ny) lent 0 records) _ (entry (still nx ny) lent 0 records)
+      (λ ps e.
+      next (adding.checkNodes (nx * ny) g (scatterOf nx ny ps .mass)) _
+      (each (adding.checkNodeAt g (scatterOf nx ny ps .mass)) 0 (nx * ny) (present (scatterOf nx ny ps .mass)) (nodes-few (few-entered (still nx ny) lent 0 records e .sizes)))
+      (λ _ _. accepts))
 
 moves : {A : Type 0} (nx ny : ℕ) (move : Particle → Particle) (k : ℕ) (ps : List Particle) (rest : Answer A) → k + length ps < 4294967296 → Placed rest → Placed (moveChecks nx ny move k ps rest)
 unfolding moveChecks moveCheck

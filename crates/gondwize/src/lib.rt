@@ -19,6 +19,7 @@ ghost use Rattle.particles.specs.Set.{checkAnswer};
 ghost use Rattle.totals.specs.Totals.{totalsAnswer};
 ghost use Rattle.spline.specs.Answers.{weightsAnswer};
 ghost use Rattle.transfer.specs.Transfer.{ScatterIs, GatherIs};
+ghost use Rattle.adding.specs.Adding.{AddingIs};
 ghost use Rattle.update.specs.Update.{UpdateIs};
 ghost use Rattle.apic.specs.Step.{gridsOf};
 ghost use Rattle.simulation.specs.Step.{Sees, stepAfter};
@@ -130,6 +131,26 @@ pub extern "C" fn gondwize_scatter(
         (now (mass .exit)) (now (px .exit)) (now (py .exit))) r ⌝ }
 {
     match scatter::scatter(nx, ny, records, mass, px, py) {
+        Scattered::Refused(refusal) => answer::code(refusal),
+        Scattered::Done => 0,
+    }
+}
+
+// The adding scatter.
+#[no_mangle]
+pub extern "C" fn gondwize_adding_scatter(
+    nx: usize,
+    ny: usize,
+    records: &[u8],
+    mass: &mut [u64],
+    px: &mut [i64],
+    py: &mut [i64],
+) -> u64
+    ensures { λ r. ⌜ Tells (λ told. AddingIs nx ny (now (records .entry))
+        (now (mass .entry)) (now (px .entry)) (now (py .entry)) told
+        (now (mass .exit)) (now (px .exit)) (now (py .exit))) r ⌝ }
+{
+    match adding_scatter::adding_scatter(nx, ny, records, mass, px, py) {
         Scattered::Refused(refusal) => answer::code(refusal),
         Scattered::Done => 0,
     }

@@ -3,6 +3,7 @@
 --     leastMass, mostMass, mostVelocity, mostAffine, mostPosition     the numbers of one particle
 --     mostRecords, mostTotalMass  a set of them
 --     mostNodeMass, mostNodeVelocity     a node
+--     mostPresentMomentum         a node that is added to, for each unit of its mass
 --     mostGravity, mostSteps      what a run is asked for
 --     leastWidth, mostWidth, mostDrag     the edge's band, and drag
 --     between, isℤ, valid..       a number is within its limits
@@ -45,6 +46,9 @@ mostNodeMass = 2 ^ 43
 
 abbrev pub mostNodeVelocity : ℕ
 mostNodeVelocity = 131072
+
+abbrev pub mostPresentMomentum : ℕ
+mostPresentMomentum = 457536
 
 abbrev pub mostGravity : ℕ
 mostGravity = 4096

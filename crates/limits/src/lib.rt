@@ -33,6 +33,9 @@ pub const MOST_NODE_MASS: u64 = 0x800_0000_0000;
 
 pub const MOST_NODE_VELOCITY: i64 = 131072;
 
+// A present node's momentum on an axis, for each unit of its mass.
+pub const MOST_PRESENT_MOMENTUM: u64 = 457536;
+
 // Gravity on an axis, and the number of steps.
 pub const MOST_GRAVITY: i16 = 4096;
 

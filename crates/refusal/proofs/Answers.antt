@@ -1,6 +1,7 @@
 -- Laws of answers: a result is no refusal, two equal answers have equal parts, a check that is passed is not seen, and a group
 -- of places passes where each place does.
 --     each-end, each-turn                  a group at its end, and its next place
+--     each-start, each-on, each-stop       the loop over a group
 --     each-pass, pass-each                 a group passes where each place does, and only there
 -- Assumes nothing.
 use mathlib.Core.Path.{_≡_, refl, sym, ap, subst, _∙_}
@@ -77,6 +78,19 @@ module _ (check : ℕ → Answer Unit) where
     where
       next : n - k ≡ suc (n - (k + 1))
       next = omega arith
+
+  -- a loop over n places: its start, past a place that passes, and at one that is refused
+  pub each-start : (n : ℕ) → forEach check 0 n ≡ forEach check 0 (n - 0)
+  each-start n = ap (forEach check 0) whole
+    where
+      whole : n ≡ n - 0
+      whole = omega arith
+
+  pub each-on : (k n : ℕ) → k < n → check k ≡ done → forEach check k (n - k) ≡ forEach check (k + 1) (n - (k + 1))
+  each-on k n h e = each-turn k n h ∙ ap (λ a. andThen a (λ _. forEach check (k + 1) (n - (k + 1)))) e
+
+  pub each-stop : (k n : ℕ) {m j : ℕ} → k < n → check k ≡ refused m j → forEach check k (n - k) ≡ refused m j
+  each-stop k n h e = each-turn k n h ∙ ap (λ a. andThen a (λ _. forEach check (k + 1) (n - (k + 1)))) e
 
   pub each-pass : (i n : ℕ) → ((k : ℕ) → k < n → check (i + k) ≡ done) → forEach check i n ≡ done
   each-pass i zero h = refl

@@ -1,11 +1,11 @@
--- An answer of document 01: a result, or a number with a place. Each operation's enum is read as one, and its promise is an equation of these.
--- The place is the record, or for 11 and 12 the node, counted from 0, or 0 where there is none.
+-- An answer of documents 01 and 02: a result, or a number with a place. Each operation's enum is read as one, and its promise is an equation of these.
+-- The place is the record, or for 11, 12, 20 and 21 the node, counted from 0, or 0 where there is none.
 -- Assumes nothing.
 use mathlib.Core.Path.{_≡_}
 use Prim.Native.Nat.{ℕ, zero, suc}
 use mathlib.Core.Bool.{Bool, true, false}
 use Rattle.refusal.specs.declared.Refusal.{Refusal}
-use Rattle.refusal.specs.declared.Refusal.the-variants.{Length, GridSize, Count, Mass, Velocity, Affine, Position, Identifier, TotalMass, Gravity, NodeMass, NodeVelocity, NewVelocity, NewAffine, NewPosition, SpareBits, Steps, Edge, Drag}
+use Rattle.refusal.specs.declared.Refusal.the-variants.{Length, GridSize, Count, Mass, Velocity, Affine, Position, Identifier, TotalMass, Gravity, NodeMass, NodeVelocity, NewVelocity, NewAffine, NewPosition, SpareBits, Steps, Edge, Drag, PresentNode, AddedMass}
 
 pub data Answer (A : Type 0) : Type 0 where
   result : A → Answer A
@@ -31,6 +31,8 @@ number SpareBits = 16
 number Steps = 17
 number Edge = 18
 number Drag = 19
+number (PresentNode k) = 20
+number (AddedMass k) = 21
 
 abbrev pub place : Refusal → ℕ
 place Length = 0
@@ -52,8 +54,10 @@ place SpareBits = 0
 place Steps = 0
 place Edge = 0
 place Drag = 0
+place (PresentNode k) = k
+place (AddedMass k) = k
 
--- a refusal as document 01 tells it
+-- a refusal as these documents tell it
 abbrev pub refusedBy : {A : Type 0} → Refusal → Answer A
 refusedBy e = refused (number e) (place e)
 

@@ -41,6 +41,10 @@ pub enum Refusal {
     Edge,
     // 19: drag above 255
     Drag,
+    // 20: a present node's mass is above 2^43, or its momentum beyond 457,536 times its mass
+    PresentNode(usize),
+    // 21: a node's mass would pass 2^43
+    AddedMass(usize),
 }
 
 // The number of a refusal in these lists.
@@ -67,6 +71,8 @@ pub fn number_of(refusal: Refusal) -> u8
         Refusal::Steps => 17,
         Refusal::Edge => 18,
         Refusal::Drag => 19,
+        Refusal::PresentNode(_) => 20,
+        Refusal::AddedMass(_) => 21,
     }
 }
 
@@ -94,5 +100,7 @@ pub fn place_of(refusal: Refusal) -> usize
         Refusal::Steps => 0,
         Refusal::Edge => 0,
         Refusal::Drag => 0,
+        Refusal::PresentNode(node) => node,
+        Refusal::AddedMass(node) => node,
     }
 }

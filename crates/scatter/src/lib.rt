@@ -7,13 +7,16 @@ use transfer::PART_LENGTH;
 use transfer::PART_NUMBERS;
 use transfer::Scattered;
 use unpacked::NUMBERS;
+ghost use mathlib.Core.Path.{_≡_};
 ghost use Prim.Native.Nat.{_*_};
+ghost use lib.ListN.{length};
+ghost use Rattle.refusal.specs.Refused.{result, andThen};
 ghost use Rattle.spline.specs.Spline.{axisWeight, D};
 ghost use Rattle.spline.specs.Kernel.{weightIn};
-ghost use Rattle.particles.specs.Set.{particlesIn};
+ghost use Rattle.particles.specs.Set.{particlesIn, toldChecked};
 ghost use Rattle.scatter_core.specs.Scatter.{ScatteredGrids};
 ghost use Rattle.scatter_particle.specs.Added.{Added};
-ghost use Rattle.transfer.specs.Transfer.{toldScattered, ScatterIs};
+ghost use Rattle.transfer.specs.Transfer.{toldScattered, scatterAnswer, ScatterIs};
 ghost use Rattle.transfer.specs.Internal.{ScatterSet, PartsReady};
 
 // Adds a set to cleared grids, part by part, through an array with room for the numbers of a part. `scatter_set` calls it.
@@ -62,8 +65,8 @@ fn scatter_parts(
     );
 }
 
-// Clears the grids and adds an accepted set. `scatter` calls it.
-fn scatter_set(
+// Clears the grids and adds an accepted set. `scatter` and crate adding_scatter call it.
+pub fn scatter_set(
     nx: usize,
     ny: usize,
     records: &[u8],
@@ -82,6 +85,25 @@ fn scatter_set(
     scatter_parts(nx, ny, records, &mut array, &table, spline::D, mass, px, py);
 }
 
+// What both scatters check first: sizes, records, and grid buffers of these lengths. `scatter` and crate adding_scatter call it.
+pub fn check_scatter(
+    nx: usize,
+    ny: usize,
+    records: &[u8],
+    mass: usize,
+    px: usize,
+    py: usize,
+) -> Checked
+    ensures { λ r. ⌜ toldChecked r ≡ andThen (scatterAnswer nx ny (now (records .entry)) mass px py) (λ ps. result (length ps)) ⌝ }
+{
+    entry::check(
+        settings::still(nx, ny),
+        Buffers::Three(mass, px, py),
+        0,
+        records,
+    )
+}
+
 // Particle-to-grid transfer: the grids then hold the masses and momenta of the set, whatever they held.
 // A refused call leaves them as they were.
 pub fn scatter(
@@ -94,9 +116,7 @@ pub fn scatter(
 ) -> Scattered
     ensures { λ r. ⌜ ScatterIs nx ny (now (records .entry)) (now (mass .entry)) (now (px .entry)) (now (py .entry)) (toldScattered r) (now (mass .exit)) (now (px .exit)) (now (py .exit)) ⌝ }
 {
-    let settings = settings::still(nx, ny);
-    let buffers = Buffers::Three(mass.len(), px.len(), py.len());
-    match entry::check(settings, buffers, 0, records) {
+    match check_scatter(nx, ny, records, mass.len(), px.len(), py.len()) {
         Checked::Refused(refusal) => Scattered::Refused(refusal),
         Checked::Records(_) => {
             scatter_set(nx, ny, records, mass, px, py);

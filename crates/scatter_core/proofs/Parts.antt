@@ -1,4 +1,5 @@
 -- Some particles of a set, one after the other.
+--     rising-tail      identifiers that rise, behind the first
 --     limits-part      they are within a set's limits
 --     parts-added      they are added after those before them
 --     parts-room       with those before them added to cleared grids there is room for them
@@ -23,7 +24,7 @@ use Rattle.scatter_particle.specs.Added.{Added}
 use Rattle.scatter_core.specs.Scatter.{Room, mostShare}
 use Rattle.scatter_core.proofs.Sets.{added-append, added-held}
 
-rising-tail : (p : Particle) (ps : List Particle) → Rising (p ∷ ps) → Rising ps
+pub rising-tail : (p : Particle) (ps : List Particle) → Rising (p ∷ ps) → Rising ps
 rising-tail p [] r = tt
 rising-tail p (q ∷ ps) r = r .1
 

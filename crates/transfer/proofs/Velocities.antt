@@ -7,7 +7,6 @@ use mathlib.Core.Bool.{Bool, not}
 use mathlib.Core.List.{List}
 use Prim.Native.Nat.{ℕ, _+_, _-_, _*_, _<_, _≤_}
 use native.Mathlib.Nat.{zero-add}
-use native.Mathlib.Omega.{arith}
 use lib.ListN.{length, getD}
 use lib.IntN.{ℤ, pos, natAbs}
 use mir.Syntax.{w64}
@@ -16,7 +15,7 @@ use mir.Facts.{toZ-ofZ}
 use borrow.Author.Tests.{not-false}
 use Rattle.arith.specs.Lists.{each-of}
 use Rattle.refusal.specs.Refused.{refuseIf, andThen, done, forEach}
-use Rattle.refusal.proofs.Answers.{passed, each-turn, pass-each}
+use Rattle.refusal.proofs.Answers.{passed, each-start, each-turn, pass-each}
 use Rattle.limits.specs.Limits.{mostNodeVelocity}
 use Rattle.entry.specs.Checks.{bothWithin}
 use Rattle.entry.proofs.Entry.{within-both}
@@ -26,10 +25,7 @@ use Rattle.transfer.specs.Transfer.{velocityCheck, velocityChecks}
 module _ (n : ℕ) (ux uy : List ℤ) where
   pub start : velocityChecks n ux uy ≡ forEach (velocityCheck ux uy) 0 (n - 0)
   unfolding velocityChecks
-  start = ap (forEach (velocityCheck ux uy) 0) whole
-    where
-      whole : n ≡ n - 0
-      whole = omega arith
+  start = each-start (velocityCheck ux uy) n
 
   -- r is what `both_within` answers, of the numbers that the machine holds
   pub turn : (k : ℕ) {r t : Bool} → k < n → SFits w64 (getD ux k (pos 0)) → SFits w64 (getD uy k (pos 0)) → r ≡ bothWithin mostNodeVelocity (toZ w64 (ofZ w64 (getD ux k (pos 0)))) (toZ w64 (ofZ w64 (getD uy k (pos 0)))) → r ≡ t → forEach (velocityCheck ux uy) k (n - k) ≡ andThen (refuseIf (not t) 12 k done) (λ _. forEach (velocityCheck ux uy) (k + 1) (n - (k + 1)))

@@ -10,7 +10,7 @@ pub const PART_LENGTH: usize = PART * RECORD_LENGTH;
 
 pub const PART_NUMBERS: usize = PART * NUMBERS;
 
-// The answer of `scatter`.
+// The answer of both scatters.
 pub enum Scattered {
     Done,
     Refused(Refusal),

@@ -1,4 +1,5 @@
 mod Example
 pub mod Walk
+pub mod Calm
 pub mod Answers
 pub mod Rim

@@ -2,20 +2,20 @@
 --     node-heavy, node-fast, node-passes   what a node's check answers, by its tests
 --     node-limits, limits-pass             a node passes where it keeps the limits, and only there
 --     nodes-limits, limits-nodes           as node-limits and limits-pass, for all nodes
---     walk-start, walk-on, walk-ends       the walk from a node on
+--     walk-start                           the walk from its first node
 -- Assumes nothing.
 use mathlib.Core.Path.{_≡_, refl, sym, ap, ap₂, _∙_, subst}
 use mathlib.Core.Bool.{Bool, true, false, not, _&&_, _||_}
 use mathlib.Core.List.{List}
-use Prim.Native.Nat.{ℕ, zero, suc, _+_, _-_, _≤_, _<_}
+use Prim.Native.Nat.{ℕ, zero, suc, _-_, _≤_, _<_}
 use native.Mathlib.Nat.{zero-add}
 use native.Mathlib.Omega.{arith}
 use lib.Dec.{ltb, eqb}
 use lib.ListN.{getD}
 use lib.IntN.{ℤ, pos, negsuc, natAbs}
 use borrow.Author.Tests.{ltb-false, eqb-true, le-ltb, ne-eqb, eq-eqb, not-false}
-use Rattle.refusal.specs.Refused.{refused, refuseIf, andThen, done, forEach}
-use Rattle.refusal.proofs.Answers.{passed, each-turn, each-pass, pass-each}
+use Rattle.refusal.specs.Refused.{refused, refuseIf, done, forEach}
+use Rattle.refusal.proofs.Answers.{passed, each-start, each-pass, pass-each}
 use Rattle.limits.specs.Limits.{mostNodeMass, mostNodeVelocity}
 use Rattle.limits.proofs.Flags.{or-false}
 use Rattle.entry.specs.Checks.{bothWithin}
@@ -99,20 +99,7 @@ module _ (D n : ℕ) (gx gy : ℤ) (mass : List ℕ) (px py : List ℤ) where
       each-pass (checkNodeAt D gx gy mass px py) 0 n
       (λ k l. ap (checkNodeAt D gx gy mass px py) (zero-add k) ∙ limits-pass D gx gy k (getD mass k 0) (getD px k (pos 0)) (getD py k (pos 0)) (h k l))
 
-  -- the walk from its first node; past a node that passed; and where a node is refused
+  -- the walk from its first node
   pub walk-start : checkNodes D n gx gy mass px py ≡ forEach (checkNodeAt D gx gy mass px py) 0 (n - 0)
   unfolding checkNodes
-  walk-start = ap (forEach (checkNodeAt D gx gy mass px py) 0) whole
-    where
-      whole : n ≡ n - 0
-      whole = omega arith
-
-  pub walk-on : (k : ℕ) → k < n → checkNodeAt D gx gy mass px py k ≡ done → forEach (checkNodeAt D gx gy mass px py) k (n - k) ≡ forEach (checkNodeAt D gx gy mass px py) (k + 1) (n - (k + 1))
-  walk-on k h e =
-      each-turn (checkNodeAt D gx gy mass px py) k n h
-      ∙ ap (λ a. andThen a (λ _. forEach (checkNodeAt D gx gy mass px py) (k + 1) (n - (k + 1)))) e
-
-  pub walk-ends : (k m l : ℕ) → k < n → checkNodeAt D gx gy mass px py k ≡ refused m l → forEach (checkNodeAt D gx gy mass px py) k (n - k) ≡ refused m l
-  walk-ends k m l h e =
-      each-turn (checkNodeAt D gx gy mass px py) k n h
-      ∙ ap (λ a. andThen a (λ _. forEach (checkNodeAt D gx gy mass px py) (k + 1) (n - (k + 1)))) e
+  walk-start = each-start (checkNodeAt D gx gy mass px py) n

@@ -6,7 +6,8 @@ ghost use Rattle.arith.specs.Rounding.{rounded};
 ghost use Rattle.limits.specs.Limits.{mostNodeMass, mostGravity};
 ghost use Rattle.spline.specs.Kernel.{Spread};
 ghost use Rattle.update.specs.Update.{velocityOf, breaksMass, checkNode, toldUpdate};
-ghost use Rattle.update_node.specs.Internal.{Divisor, isCalm};
+ghost use Rattle.update.specs.Internal.{isCalm};
+ghost use Rattle.update_node.specs.Internal.{Divisor};
 use entry::checks;
 use limits::MOST_NODE_MASS;
 use limits::MOST_NODE_VELOCITY;
@@ -15,7 +16,7 @@ use update::Updated;
 
 // 4·(131,072 − 4096): a momentum of at most so much per unit of mass keeps the velocity's limit under every gravity, for the
 // least D and so for every one.
-const CALM_MOMENTUM: i64 = 507904;
+const CALM_MOMENTUM: u64 = 507904;
 
 // size/divisor to nearest, halves up. `rounded` calls it.
 fn rounded_size(size: u64, divisor: u64) -> u64
@@ -77,23 +78,9 @@ pub fn check(d: u64, k: usize, gx: i64, gy: i64, mass: u64, px: i64, py: i64) ->
     Updated::Done
 }
 
-// Whether a node surely breaks no limit, without a division: its mass is in range, and neither momentum is more than 126,976
-// velocity units' worth. Crate update_grid calls it.
+// Whether a node surely breaks no limit, without a division. Crate update_grid calls it.
 pub fn is_calm(mass: u64, px: i64, py: i64) -> bool
     ensures { λ r. ⌜ r ≡ isCalm mass px py ⌝ }
 {
-    if mass > MOST_NODE_MASS {
-        return false;
-    }
-    let most = mass as i64 * CALM_MOMENTUM;
-    if px < -most {
-        return false;
-    }
-    if most < px {
-        return false;
-    }
-    if py < -most {
-        return false;
-    }
-    py <= most
+    node_momentum::momenta_within(CALM_MOMENTUM, mass, px, py)
 }

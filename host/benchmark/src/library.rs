@@ -22,6 +22,7 @@ macro_rules! functions {
             totals: $make!(totals gondwize_totals),
             weights: $make!(weights gondwize_weights),
             scatter: $make!(scatter gondwize_scatter),
+            adding_scatter: $make!(adding_scatter gondwize_adding_scatter),
             update: $make!(update gondwize_update),
             gather: $make!(gather gondwize_gather),
             step: $make!(step gondwize_step),
@@ -68,12 +69,17 @@ fn last_error() -> String {
     }
 }
 
+/// Stands for a function that a library lacks.
+extern "C" fn missing() {
+    panic!("a call of a function that the library lacks");
+}
+
 /// Another build of the static library, beside the one that this program is linked with: made a shared
-/// one by gcc in `room`, and loaded.
+/// one by gcc in `room`, and loaded. A call of a function that an older build lacks ends the process.
 ///
 /// # Errors
 ///
-/// Where it cannot be made or loaded, or lacks a function.
+/// Where it cannot be made or loaded.
 ///
 /// # Safety
 ///
@@ -105,9 +111,11 @@ pub unsafe fn load(archive: &Path, room: &Path, name: &str) -> Result<Library, S
             unsafe {
                 let function = dlsym(library, name.as_ptr().cast());
                 if function.is_null() {
-                    return Err(last_error());
+                    eprintln!("{} lacks {}", archive.display(), stringify!($function));
+                    transmute::<extern "C" fn(), _>(missing)
+                } else {
+                    transmute::<*mut c_void, _>(function)
                 }
-                transmute::<*mut c_void, _>(function)
             }
         }};
     }

@@ -15,6 +15,7 @@ pub enum Line {
     Run(Edge, usize),
     Step,
     Scatter,
+    AddingScatter,
     Update,
     Gather,
     CheckSet,
@@ -31,13 +32,14 @@ impl Line {
     pub const RUN: Line = Line::Run(Edge::Open, 0);
 
     /// All of them.
-    pub const ALL: [Line; 15] = [
+    pub const ALL: [Line; 16] = [
         Line::RUN,
         Line::Run(Edge::Sticky(2), 0),
         Line::Run(Edge::Open, 9),
         Line::Run(Edge::Sticky(2), 9),
         Line::Step,
         Line::Scatter,
+        Line::AddingScatter,
         Line::Update,
         Line::Gather,
         Line::CheckSet,
@@ -58,6 +60,7 @@ impl Line {
             Line::Run(..) => "a run's step, sticky edge and drag",
             Line::Step => "step",
             Line::Scatter => "scatter",
+            Line::AddingScatter => "adding scatter",
             Line::Update => "update",
             Line::Gather => "gather",
             Line::CheckSet => "check a set",
@@ -79,6 +82,7 @@ pub struct Timed {
     particles: Vec<Particle>,
     records: Vec<u8>,
     mass: Vec<u64>,
+    scattered: Vec<u64>,
     momentum: [Vec<i64>; 2],
     velocity: [Vec<i64>; 2],
     grid: [Vec<i64>; 2],
@@ -109,6 +113,7 @@ impl Timed {
                 .map(|record| read_record(record).expect("a record"))
                 .collect(),
             records: bath.records.clone(),
+            scattered: mass.clone(),
             mass,
             momentum,
             velocity: [x.clone(), y.clone()],
@@ -130,8 +135,11 @@ impl Timed {
 
 impl Subject for Timed {
     fn prepare(&mut self) {
+        if self.line == Line::AddingScatter {
+            self.mass.copy_from_slice(&self.scattered);
+        }
         match self.line {
-            Line::Update => {
+            Line::AddingScatter | Line::Update => {
                 self.grid[0].copy_from_slice(&self.momentum[0]);
                 self.grid[1].copy_from_slice(&self.momentum[1]);
             }
@@ -173,6 +181,7 @@ impl Subject for Timed {
             }
             Line::Step => library.step(settings, &mut self.records, &mut grid),
             Line::Scatter => library.scatter(settings.size, records, &mut grid),
+            Line::AddingScatter => library.adding_scatter(settings.size, records, &mut grid),
             Line::Update => library.update(settings, &mut grid),
             Line::Gather => {
                 let [x, y] = &self.velocity;

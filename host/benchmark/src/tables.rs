@@ -15,7 +15,7 @@ pub fn duration(nanoseconds: f64) -> String {
 }
 
 /// What a command is given: so many words of its own, then the number of rounds, 101 where there is none,
-/// and a part of the names of the lines that are wanted.
+/// and a part of the names of the lines that are wanted, or, after a minus, of those that are not.
 ///
 /// # Panics
 ///
@@ -29,6 +29,14 @@ pub fn arguments(own: usize, usage: &str) -> (Vec<String>, usize, String) {
         number.unwrap_or_else(|_| panic!("no number of rounds: {text}; usage: {usage}"))
     });
     (words, rounds, rest.next().unwrap_or_default())
+}
+
+/// Whether a line is wanted.
+fn is_wanted(name: &str, chosen: &str) -> bool {
+    match chosen.strip_prefix('-') {
+        Some(part) => !name.contains(part),
+        None => name.contains(chosen),
+    }
 }
 
 /// Prints the tables of two libraries, each with its copies. `head` names the columns after the first, and `row` tells what stands there, for a
@@ -56,12 +64,12 @@ pub fn tables(
     for bath in [Bath::new(4096, 48, 40), Bath::new(64, 8, 100)] {
         start(&bath.to_string());
         for operation in Line::ALL {
-            if operation.name().contains(chosen) {
+            if is_wanted(operation.name(), chosen) {
                 line(operation.name(), operation, &bath);
             }
         }
     }
-    if chosen.is_empty() {
+    if (chosen.is_empty() || chosen.starts_with('-')) && is_wanted(Line::RUN.name(), chosen) {
         let growing = [256, 1024, 4096].map(|count| Bath::new(count, 48, 40));
         let widening = [12, 24, 48].map(|side| Bath::new(64, side, 40));
         for baths in [growing, widening] {

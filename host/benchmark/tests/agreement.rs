@@ -55,7 +55,8 @@ macro_rules! agreement {
 }
 
 agreement! {
-    read_record write_record check_set totals weights scatter update gather step run read_file write_header
+    read_record write_record check_set totals weights scatter adding_scatter update gather step run read_file
+    write_header
 }
 
 /// The operations whose calls have arguments of every kind, and the most of them.
@@ -104,6 +105,7 @@ fn sizes_of_sets() {
         let operations = [
             Operation::CheckSet(at),
             Operation::Scatter(at),
+            Operation::AddingScatter(at),
             Operation::Gather(at),
             Operation::Step(given),
             Operation::Run(given, 3),

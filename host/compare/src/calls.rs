@@ -4,7 +4,7 @@ use engine::library::Library;
 use engine::GridBuffers;
 use reference::edge::{OPEN, SLIP, STICKY};
 use reference::simulation::{run_by, step_by};
-use reference::transfer::{gather_by, scatter_by};
+use reference::transfer::{adding_scatter_by, gather_by, scatter_by};
 use reference::{Edge, Header, Particle, Refusal, RunAnswer, Settings, Size, Sums, Totals};
 use vectors::{Answer, Buffers, Operation};
 
@@ -160,6 +160,9 @@ pub fn by_engine(operation: Operation, buffers: &mut Buffers) -> Option<Answer> 
             engine::weights(q.try_into().ok()?).map(|row| Answer::Weights(row.map(i128::from)))
         }
         Operation::Scatter(at) => engine::scatter(size(at)?, bytes, &mut grid).map(done),
+        Operation::AddingScatter(at) => {
+            engine::adding_scatter(size(at)?, bytes, &mut grid).map(done)
+        }
         Operation::Update(given) => engine::update(settings(given)?, &mut grid).map(done),
         Operation::Gather(at) => engine::gather(size(at)?, bytes, grid.x, grid.y).map(done),
         Operation::Step(given) => engine::step(settings(given)?, bytes, &mut grid).map(done),
@@ -224,6 +227,7 @@ pub fn by_library(
             handed(before, |values| library.weights(q, values))
         }
         Operation::Scatter(at) => none(library.scatter(size(at)?, bytes, &mut grid)),
+        Operation::AddingScatter(at) => none(library.adding_scatter(size(at)?, bytes, &mut grid)),
         Operation::Update(given) => none(library.update(settings(given)?, &mut grid)),
         Operation::Gather(at) => none(library.gather(size(at)?, bytes, grid.x, grid.y)),
         Operation::Step(given) => none(library.step(settings(given)?, bytes, &mut grid)),
@@ -254,6 +258,7 @@ pub fn by_reference(operation: Operation, buffers: &mut Buffers) -> Answer {
     let Buffers { bytes, grid } = buffers;
     let answer = match operation {
         Operation::Scatter(size) => scatter_by(sums, size, bytes, &mut grid.buffers()),
+        Operation::AddingScatter(size) => adding_scatter_by(sums, size, bytes, &mut grid.buffers()),
         Operation::Gather(size) => gather_by(sums, size, bytes, &grid.x, &grid.y),
         Operation::Step(settings) => step_by(sums, settings, bytes, &mut grid.buffers()),
         Operation::Run(settings, steps) => {

@@ -2,7 +2,8 @@
 
 use reference::generator::Generator;
 use reference::particle_set::pack_records;
-use reference::{Edge, Grid, Header, Particle, Settings, Size};
+use reference::transfer::scatter_by;
+use reference::{Edge, Grid, Header, Particle, Settings, Size, Sums};
 use vectors::{Buffers, Operation};
 
 /// A number at an end of its range, one beyond, inside, inside but for a higher bit that a narrower
@@ -295,6 +296,56 @@ pub fn scatter(numbers: &mut Generator) -> Call {
     (Operation::Scatter(size), Buffers { bytes, grid })
 }
 
+/// Fills the nodes that all buffers have; their number.
+fn fill(grid: &mut Grid, mut node: impl FnMut() -> (u64, i64, i64)) -> usize {
+    let count = grid.mass.len().min(grid.x.len()).min(grid.y.len());
+    for k in 0..count {
+        (grid.mass[k], grid.x[k], grid.y[k]) = node();
+    }
+    count
+}
+
+/// One number of a present node at a limit or beyond.
+fn strain_node(numbers: &mut Generator, grid: &mut Grid, k: usize) {
+    let most = 457_536 * i128::from(grid.mass[k]);
+    match numbers.between(0, 4) {
+        0 => grid.mass[k] = near(numbers, (0, 1 << 43), U64) as u64,
+        1 | 2 => grid.x[k] = near(numbers, (-most, most), I64) as i64,
+        _ => grid.y[k] = near(numbers, (-most, most), I64) as i64,
+    }
+}
+
+/// The most mass that a node may hold before the set is added, or one more.
+fn fill_node(numbers: &mut Generator, size: Size, records: &[u8], grid: &mut Grid, k: usize) {
+    let mut shares = Grid::zero(size.nodes());
+    if scatter_by(Sums::Nearby, size, records, &mut shares.buffers()).is_ok() {
+        let share = shares.mass.get(k).copied().unwrap_or(0);
+        grid.mass[k] = (1 << 43) - share + numbers.between(0, 1) as u64;
+    }
+}
+
+/// Adding scatter, mostly onto nodes that are accepted, and one in five times onto nodes that hold
+/// anything.
+pub fn adding_scatter(numbers: &mut Generator) -> Call {
+    let (Operation::Scatter(size), mut buffers) = scatter(numbers) else {
+        unreachable!("a scatter");
+    };
+    let Buffers { bytes, grid } = &mut buffers;
+    if !numbers.once_in(5) {
+        let heaviest = numbers.one_of(&[0, 1 << 20, 1 << 42, 1 << 42, 1 << 43]);
+        let count = fill(grid, || numbers.present_node(heaviest));
+        if count > 0 {
+            let k = place(numbers, count);
+            match numbers.between(0, 5) {
+                0 | 1 => strain_node(numbers, grid, k),
+                2 | 3 => fill_node(numbers, ground(size), bytes, grid, k),
+                _ => {}
+            }
+        }
+    }
+    (Operation::AddingScatter(size), buffers)
+}
+
 /// Mass and momentum of a node, mostly within the limits, with a velocity about an end of its range.
 fn node(numbers: &mut Generator, settings: Settings) -> (u64, i64, i64) {
     let most = 1 << 43;
@@ -323,10 +374,7 @@ pub fn update(numbers: &mut Generator) -> Call {
     let settings = settings(numbers, size);
     let mut grid = any_grid(numbers, size);
     if !numbers.once_in(10) {
-        let count = grid.mass.len().min(grid.x.len()).min(grid.y.len());
-        for k in 0..count {
-            (grid.mass[k], grid.x[k], grid.y[k]) = node(numbers, settings);
-        }
+        let count = fill(&mut grid, || node(numbers, settings));
         if count > 0 && numbers.once_in(5) {
             let k = place(numbers, count);
             grid.mass[k] = numbers.one_of(&[0, (1 << 43) + 1, u64::MAX.into()]) as u64;
@@ -605,6 +653,23 @@ pub fn list_call(numbers: &mut Generator, size: Size, records: &[u8]) -> Call {
     let bytes = records.to_vec();
     let grid = any_grid(numbers, given);
     (operation, Buffers { bytes, grid })
+}
+
+/// A grid that a set can be added to, for lists of additions: with nothing, with something, or almost
+/// full.
+pub fn present(numbers: &mut Generator) -> (Size, Grid) {
+    let size = Size::new(numbers.between(4, 9), numbers.between(4, 9));
+    let heaviest = numbers.one_of(&[0, 1 << 42, (1 << 43) - (1 << 38)]);
+    let mut grid = Grid::zero(size.nodes());
+    fill(&mut grid, || numbers.present_node(heaviest));
+    (size, grid)
+}
+
+/// An adding scatter of some records onto this grid.
+pub fn addition(numbers: &mut Generator, size: Size, grid: &Grid) -> Call {
+    let bytes = records(numbers, size);
+    let grid = grid.clone();
+    (Operation::AddingScatter(size), Buffers { bytes, grid })
 }
 
 /// A set of as many records as wanted on the largest grid, the total mass at its limit.

@@ -250,6 +250,7 @@ fn full_sets() {
                 Operation::CheckSet(size),
                 Operation::Totals(size),
                 Operation::Scatter(size),
+                Operation::AddingScatter(size),
                 Operation::Gather(size),
                 Operation::Step(settings),
                 Operation::Step(settings.with_edge(Edge::slip(2)).with_drag(3)),

@@ -57,6 +57,12 @@ fn scatter() {
 }
 
 #[test]
+fn adding_scatter() {
+    let refusals = [1, 2, 4, 5, 6, 7, 8, 9, 20, 21];
+    compare("adding scatter", inputs::adding_scatter, &refusals);
+}
+
+#[test]
 fn update() {
     compare("update", inputs::update, &[1, 2, 10, 11, 12, 18, 19]);
 }

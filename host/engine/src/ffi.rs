@@ -62,6 +62,19 @@ unsafe extern "C" {
         py_length: usize,
     ) -> u64;
 
+    pub fn gondwize_adding_scatter(
+        nx: usize,
+        ny: usize,
+        records: *const u8,
+        records_length: usize,
+        mass: *mut u64,
+        mass_length: usize,
+        px: *mut i64,
+        px_length: usize,
+        py: *mut i64,
+        py_length: usize,
+    ) -> u64;
+
     pub fn gondwize_update(
         nx: usize,
         ny: usize,

@@ -27,6 +27,7 @@
 //! | check a set, its totals | [`check_set`], [`totals`] |
 //! | weights of one axis | [`weights`] |
 //! | particle-to-grid transfer, node update, grid-to-particle transfer | [`scatter`], [`update`], [`gather`] |
+//! | particle-to-grid transfer onto what a grid holds | [`adding_scatter`] |
 //! | step, run | [`step`], [`run`] |
 //! | read a file, write its header | [`read_file`], [`write_header`] |
 //!
@@ -357,6 +358,48 @@ pub fn weights(q: i64) -> Result<[u16; 3], Refusal> {
 /// 2; 1, also where a grid buffer is not Nx·Ny long; then the set.
 pub fn scatter(size: Size, records: &[u8], grid: &mut GridBuffers) -> Result<(), Refusal> {
     Refusal::check(PROVED.scatter(size, records, grid))
+}
+
+/// Particle-to-grid transfer onto what the grid holds: the set's node masses and momenta are added to
+/// those that are there.
+///
+/// On a grid of zeros it does what [`scatter`] does. Parts of an accepted set that together have each
+/// record once, each part in the set's order, give the set's grid when they are added to a grid of zeros,
+/// in any order, and none of them is refused. An [`update`] of what this leaves is not refused with 11 or
+/// 12.
+///
+/// ```
+/// use engine::{adding_scatter, scatter, write_record, GridBuffers, Limit, Particle, Size};
+///
+/// let mut records = [0; 2 * engine::RECORD_LENGTH];
+/// let (first, second) = records.split_at_mut(engine::RECORD_LENGTH);
+/// let particle = Particle { identifier: 7, mass: 2, x: 64, y: 64, vx: 3, ..Particle::default() };
+/// write_record(&particle, first)?;
+/// write_record(&Particle { identifier: 9, x: 100, vy: -5, ..particle }, second)?;
+///
+/// let size = Size { nx: 5, ny: 4 };
+/// let (mut mass, mut x, mut y) = ([0; 20], [0; 20], [0; 20]);
+/// let mut grid = GridBuffers { mass: &mut mass, x: &mut x, y: &mut y };
+/// adding_scatter(size, second, &mut grid)?;
+/// adding_scatter(size, first, &mut grid)?;
+/// let added = (mass, x, y);
+/// let mut grid = GridBuffers { mass: &mut mass, x: &mut x, y: &mut y };
+/// scatter(size, &records, &mut grid)?;
+/// assert_eq!(added, (mass, x, y));
+///
+/// mass[6] = 1 << 43;
+/// let mut grid = GridBuffers { mass: &mut mass, x: &mut x, y: &mut y };
+/// let refusal = adding_scatter(size, &records, &mut grid).expect_err("a mass above 2^43");
+/// assert_eq!((refusal.limit, refusal.place), (Limit::AddedMass, 6));
+/// # Ok::<(), engine::Refusal>(())
+/// ```
+///
+/// # Errors
+///
+/// 2; 1, also for the grid buffers; the set; then for each node 20 where its mass is above 2^43 or a
+/// momentum in size above 457,536 times its mass, and 21 where its mass would pass 2^43.
+pub fn adding_scatter(size: Size, records: &[u8], grid: &mut GridBuffers) -> Result<(), Refusal> {
+    Refusal::check(PROVED.adding_scatter(size, records, grid))
 }
 
 /// Node update: velocities in 256ths take the place of momenta; masses stay. Momentum by mass, rounded,

@@ -20,6 +20,18 @@ type Numbers = *const i64;
 type NumbersOut = *mut i64;
 type Masses = *const u64;
 type MassesOut = *mut u64;
+type Scatter = unsafe extern "C" fn(
+    usize,
+    usize,
+    Bytes,
+    usize,
+    MassesOut,
+    usize,
+    NumbersOut,
+    usize,
+    NumbersOut,
+    usize,
+) -> u64;
 
 /// The functions of a library, each with the name of the one of [`ffi`] that it stands for.
 #[derive(Clone, Copy)]
@@ -43,18 +55,8 @@ pub struct Functions {
     pub check_set: unsafe extern "C" fn(usize, usize, Bytes, usize, *mut u64) -> u64,
     pub totals: unsafe extern "C" fn(usize, usize, Bytes, usize, *mut [i64; 5]) -> u64,
     pub weights: unsafe extern "C" fn(i64, *mut [i64; 3]) -> u64,
-    pub scatter: unsafe extern "C" fn(
-        usize,
-        usize,
-        Bytes,
-        usize,
-        MassesOut,
-        usize,
-        NumbersOut,
-        usize,
-        NumbersOut,
-        usize,
-    ) -> u64,
+    pub scatter: Scatter,
+    pub adding_scatter: Scatter,
     pub update: unsafe extern "C" fn(
         usize,
         usize,
@@ -139,6 +141,7 @@ pub const PROVED: Library = {
         totals: ffi::gondwize_totals,
         weights: ffi::gondwize_weights,
         scatter: ffi::gondwize_scatter,
+        adding_scatter: ffi::gondwize_adding_scatter,
         update: ffi::gondwize_update,
         gather: ffi::gondwize_gather,
         step: ffi::gondwize_step,
@@ -215,11 +218,15 @@ impl Library {
         unsafe { (self.functions.weights)(q, values) }
     }
 
-    /// Scatter.
-    #[must_use]
-    pub fn scatter(&self, size: Size, records: &[u8], grid: &mut GridBuffers) -> u64 {
+    /// One of the scatters, which is a function of the library.
+    unsafe fn scatter_by(
+        scatter: Scatter,
+        size: Size,
+        records: &[u8],
+        grid: &mut GridBuffers,
+    ) -> u64 {
         unsafe {
-            (self.functions.scatter)(
+            scatter(
                 size.nx,
                 size.ny,
                 records.as_ptr(),
@@ -232,6 +239,18 @@ impl Library {
                 grid.y.len(),
             )
         }
+    }
+
+    /// Scatter.
+    #[must_use]
+    pub fn scatter(&self, size: Size, records: &[u8], grid: &mut GridBuffers) -> u64 {
+        unsafe { Library::scatter_by(self.functions.scatter, size, records, grid) }
+    }
+
+    /// Adding scatter.
+    #[must_use]
+    pub fn adding_scatter(&self, size: Size, records: &[u8], grid: &mut GridBuffers) -> u64 {
+        unsafe { Library::scatter_by(self.functions.adding_scatter, size, records, grid) }
     }
 
     /// Update.

@@ -48,10 +48,12 @@ limits! {
     17 Steps "more than 10000 steps",
     18 Edge "the edge is neither open with width 0 nor sticky or slip with width 1 to 3",
     19 Drag "drag is above 255",
+    20 PresentNode "a present node's mass is above 2^43, or its momentum beyond 457536 times its mass",
+    21 AddedMass "a node's mass would pass 2^43",
 }
 
 impl Limit {
-    /// The limit's number, 1 to 19.
+    /// The limit's number, 1 to 21.
     #[must_use]
     pub fn number(self) -> u32 {
         self as u32
@@ -79,8 +81,8 @@ impl fmt::Display for Limit {
 pub struct Refusal {
     /// The limit that is broken.
     pub limit: Limit,
-    /// The record, or the node for [`Limit::NodeMass`] and [`Limit::NodeVelocity`], counted from 0;
-    /// 0 where there is none.
+    /// The record, or the node for [`Limit::NodeMass`], [`Limit::NodeVelocity`],
+    /// [`Limit::PresentNode`] and [`Limit::AddedMass`], counted from 0; 0 where there is none.
     pub place: usize,
 }
 

@@ -3,7 +3,8 @@
 use std::thread;
 
 use engine::{
-    check_set, gather, read_file, run, scatter, step, totals, update, write_header, write_record,
+    adding_scatter, check_set, gather, read_file, run, scatter, step, totals, update, write_header,
+    write_record,
 };
 use engine::{Edge, GridBuffers, Header, Limit, Particle, Refusal, Settings, Size};
 use engine::{HEADER_LENGTH, RECORD_LENGTH};
@@ -54,7 +55,7 @@ impl Bath {
         }
     }
 
-    /// Every operation on the set; of a run, so many steps.
+    /// Every operation on the set but the adding scatter; of a run, so many steps.
     fn calls(&mut self, steps: usize) -> Result<(), Refusal> {
         let Bath {
             settings,
@@ -73,6 +74,19 @@ impl Bath {
         step(settings, records, &mut GridBuffers { mass, x, y })
     }
 
+    /// The set added to a grid of zeros, and to that of itself.
+    fn additions(&mut self) -> Result<(), Refusal> {
+        let Bath {
+            settings: Settings { size, .. },
+            records,
+            mass,
+            velocity: [x, y],
+        } = self;
+        let grid = &mut GridBuffers { mass, x, y };
+        adding_scatter(*size, records, grid)?;
+        adding_scatter(*size, records, grid)
+    }
+
     /// Every operation refuses the set, with this limit.
     fn refusals(&mut self, limit: Limit) {
         let Bath {
@@ -88,6 +102,7 @@ impl Bath {
             run(settings, 9, records, grid).refusal,
             step(settings, records, grid).err(),
             scatter(size, records, grid).err(),
+            adding_scatter(size, records, grid).err(),
             gather(size, records, grid.x, grid.y).err(),
             check_set(size, records).err(),
             totals(size, records).err(),
@@ -163,5 +178,14 @@ fn the_largest_set() {
             read_file(&file)
         };
         assert!(with_stack(256, calls).is_ok(), "{count}");
+    }
+}
+
+/// The adding scatter needs room for a grid, whatever the set's size.
+#[test]
+fn added_sets() {
+    for count in [0, 1, 64, 512, 4096] {
+        let mut bath = Bath::new(count);
+        assert_eq!(with_stack(128, || bath.additions()), Ok(()), "{count}");
     }
 }

@@ -63,6 +63,8 @@ exports! {
     weights(q: i64; ; values: [i64; 3]);
     /// Scatter.
     scatter(nx: usize, ny: usize; records records_length: read u8, mass mass_length: write u64, px px_length: write i64, py py_length: write i64);
+    /// Adding scatter.
+    adding_scatter(nx: usize, ny: usize; records records_length: read u8, mass mass_length: write u64, px px_length: write i64, py py_length: write i64);
     /// Update.
     update(nx: usize, ny: usize, gx: i64, gy: i64, kind: usize, width: usize, drag: usize; mass mass_length: read u64, px px_length: write i64, py py_length: write i64);
     /// Gather.

@@ -1,4 +1,4 @@
-//! Document 01 with document 02's Papers 1 to 3 in Rust, written for speed: what the proved engine is
+//! Document 01 with document 02's Papers 1 to 4 in Rust, written for speed: what the proved engine is
 //! measured against.
 //!
 //! The functions take what those of `include/gondwize.h` take, in the same order, a slice for each
@@ -24,7 +24,7 @@ pub use particle::{read_record, write_record};
 pub use set::{check_set, totals};
 pub use simulation::{run, step};
 pub use spline::weights;
-pub use transfer::{gather, scatter};
+pub use transfer::{adding_scatter, gather, scatter};
 pub use update::update;
 
 /// A refusal's number and place as one answer.

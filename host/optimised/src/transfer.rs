@@ -1,17 +1,18 @@
 //! The transfers between particles and grid.
 
 use std::mem::MaybeUninit;
+use std::ops::AddAssign;
 
 use crate::particle::Particle;
 use crate::rounding::rounded;
 use crate::set::{check_length, check_size, last, pack, unpack, Room, MOST};
 use crate::spline::{table, Place, Table};
-use crate::update::{check_lengths, is_slow};
+use crate::update::{check_lengths, is_slow, MOST_NODES};
 use crate::{answer, refused};
 
-/// Clears the grids and adds every particle. The particles are on the grid, and each grid is Nx·Ny
-/// long.
-pub fn scatter_all(
+/// Adds every particle to the grids. The particles are on the grid, and each grid is Nx·Ny long.
+#[inline(always)]
+fn add_all(
     particles: &[Particle],
     nx: usize,
     table: &Table,
@@ -19,9 +20,6 @@ pub fn scatter_all(
     px: &mut [i64],
     py: &mut [i64],
 ) {
-    mass.fill(0);
-    px.fill(0);
-    py.fill(0);
     for p in particles {
         let (x, y) = (Place::of(p.x, table), Place::of(p.y, table));
         let [bxx, bxy, byx, byy] = [p.bxx, p.bxy, p.byx, p.byy].map(|b| 64 * i64::from(b));
@@ -51,6 +49,21 @@ pub fn scatter_all(
             sy += byy;
         }
     }
+}
+
+/// Clears the grids and adds every particle, under the same conditions.
+pub fn scatter_all(
+    particles: &[Particle],
+    nx: usize,
+    table: &Table,
+    mass: &mut [u64],
+    px: &mut [i64],
+    py: &mut [i64],
+) {
+    mass.fill(0);
+    px.fill(0);
+    py.fill(0);
+    add_all(particles, nx, table, mass, px, py);
 }
 
 /// Velocity and B on one axis, from the nine nodes of which the first is at `at`.
@@ -139,6 +152,13 @@ fn scatter_set(
     Ok(())
 }
 
+/// Whether the size and the lengths of records and grids are valid.
+fn check_entry(nx: usize, ny: usize, bytes: usize, grids: [usize; 3]) -> Result<(), u64> {
+    check_size(nx, ny)?;
+    check_length(bytes)?;
+    check_lengths(nx * ny, grids)
+}
+
 fn scattered(
     nx: usize,
     ny: usize,
@@ -147,9 +167,7 @@ fn scattered(
     px: &mut [i64],
     py: &mut [i64],
 ) -> Result<(), u64> {
-    check_size(nx, ny)?;
-    check_length(records.len())?;
-    check_lengths(nx * ny, [mass.len(), px.len(), py.len()])?;
+    check_entry(nx, ny, records.len(), [mass.len(), px.len(), py.len()])?;
     scatter_set(nx, ny, records, mass, px, py)
 }
 
@@ -163,6 +181,105 @@ pub fn scatter(
     py: &mut [i64],
 ) -> u64 {
     answer(scattered(nx, ny, records, mass, px, py))
+}
+
+/// The cells of a grid, with 0 in each.
+fn cleared<T: Copy + From<u8>>(cells: &mut [MaybeUninit<T>]) -> &mut [T] {
+    cells.fill(MaybeUninit::new(T::from(0)));
+    // SAFETY: all are written.
+    unsafe { cells.assume_init_mut() }
+}
+
+/// Scatters onto cells that are not cleared. Apart from its caller: inlined into the function whose
+/// arrays they are, it takes several times as long.
+#[inline(never)]
+fn scatter_cells<'a>(
+    particles: &[Particle],
+    nx: usize,
+    mass: &'a mut [MaybeUninit<u64>],
+    px: &'a mut [MaybeUninit<i64>],
+    py: &'a mut [MaybeUninit<i64>],
+) -> (&'a [u64], &'a [i64], &'a [i64]) {
+    let (mass, px, py) = (cleared(mass), cleared(px), cleared(py));
+    add_all(particles, nx, &table(), mass, px, py);
+    (mass, px, py)
+}
+
+/// Whether every node has a mass of at most 2^43 and momenta of at most 457,536 times it, and at most
+/// 2^43 with what is added. Each grid is as long.
+fn check_nodes(mass: &[u64], px: &[i64], py: &[i64], added: &[u64]) -> Result<(), u64> {
+    let nodes = mass.iter().zip(px).zip(py).zip(added);
+    for (k, (((&mass, px), py), added)) in nodes.enumerate() {
+        let heavy = |mass: u64| mass > 1 << 43;
+        let fast = |p: &i64| p.unsigned_abs() > 457_536 * mass;
+        if heavy(mass) || fast(px) || fast(py) {
+            return Err(refused(20, k));
+        }
+        if heavy(mass + added) {
+            return Err(refused(21, k));
+        }
+    }
+    Ok(())
+}
+
+/// Adds to each number the one at its place.
+fn add<T: Copy + AddAssign>(to: &mut [T], added: &[T]) {
+    for (to, &added) in to.iter_mut().zip(added) {
+        *to += added;
+    }
+}
+
+/// Adds a set of checked length to grids of checked lengths.
+#[inline(never)]
+fn add_set(
+    nx: usize,
+    ny: usize,
+    records: &[u8],
+    mass: &mut [u64],
+    px: &mut [i64],
+    py: &mut [i64],
+) -> Result<(), u64> {
+    let mut room: Room = [MaybeUninit::uninit(); MOST];
+    let mut m = [MaybeUninit::uninit(); MOST_NODES];
+    let [mut x, mut y] = [[MaybeUninit::uninit(); MOST_NODES]; 2];
+    let particles = unpack(nx, ny, records, &mut room)?;
+    let nodes = nx * ny;
+    let (m, x, y) = scatter_cells(
+        particles,
+        nx,
+        &mut m[..nodes],
+        &mut x[..nodes],
+        &mut y[..nodes],
+    );
+    check_nodes(mass, px, py, m)?;
+    add(mass, m);
+    add(px, x);
+    add(py, y);
+    Ok(())
+}
+
+fn added(
+    nx: usize,
+    ny: usize,
+    records: &[u8],
+    mass: &mut [u64],
+    px: &mut [i64],
+    py: &mut [i64],
+) -> Result<(), u64> {
+    check_entry(nx, ny, records.len(), [mass.len(), px.len(), py.len()])?;
+    add_set(nx, ny, records, mass, px, py)
+}
+
+/// Adding scatter.
+pub fn adding_scatter(
+    nx: usize,
+    ny: usize,
+    records: &[u8],
+    mass: &mut [u64],
+    px: &mut [i64],
+    py: &mut [i64],
+) -> u64 {
+    answer(added(nx, ny, records, mass, px, py))
 }
 
 /// Gathers for a set of checked length from grids of checked lengths.
@@ -183,9 +300,7 @@ fn gather_set(nx: usize, ny: usize, records: &mut [u8], ux: &[i64], uy: &[i64]) 
 }
 
 fn gathered(nx: usize, ny: usize, records: &mut [u8], ux: &[i64], uy: &[i64]) -> Result<(), u64> {
-    check_size(nx, ny)?;
-    check_length(records.len())?;
-    check_lengths(nx * ny, [ux.len(), ux.len(), uy.len()])?;
+    check_entry(nx, ny, records.len(), [ux.len(), ux.len(), uy.len()])?;
     gather_set(nx, ny, records, ux, uy)
 }
 

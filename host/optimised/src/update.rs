@@ -7,6 +7,9 @@ use crate::rounding::rounded;
 use crate::settings::{Settings, OPEN, STICKY};
 use crate::{answer, refused};
 
+/// The largest number of nodes.
+pub const MOST_NODES: usize = 48 * 48;
+
 /// momentum/(4·mass) to nearest, halves away from zero, plus gravity; 0 without mass. For a mass of
 /// at most 2^43.
 #[inline(always)]
@@ -113,7 +116,7 @@ fn update_checked(
     py: &mut [i64],
     left: impl Fn(i64) -> i64,
 ) -> Result<(), u64> {
-    let mut found = [[MaybeUninit::uninit(); 2]; 48 * 48];
+    let mut found = [[MaybeUninit::uninit(); 2]; MOST_NODES];
     // SAFETY: a grid has as many nodes.
     unsafe { assert_unchecked((16..=found.len()).contains(&mass.len())) };
     for (k, found) in found[..mass.len()].iter_mut().enumerate() {

@@ -3,6 +3,7 @@
 use crate::edge::Edge;
 use crate::grid::Size;
 use crate::limits::{MAX_B, MAX_MASS, MAX_TOTAL_MASS, MAX_VELOCITY, MIN_PLACE, SPACING};
+use crate::limits::{MAX_PRESENT_MOMENTUM, RECORD_LENGTH};
 use crate::particle::Particle;
 
 /// A stream of numbers that its seed decides.
@@ -67,6 +68,27 @@ impl Generator {
             identifier += self.between(1, 15);
         }
         particles
+    }
+
+    /// The records dealt out to this many parts, each in the set's order.
+    pub fn parts(&mut self, records: &[u8], count: usize) -> Vec<Vec<u8>> {
+        let mut parts = vec![Vec::new(); count];
+        for record in records.chunks(RECORD_LENGTH) {
+            parts[self.between(0, count as i128 - 1) as usize].extend(record);
+        }
+        parts
+    }
+
+    /// Mass, at most this one, and momenta of a node that the adding scatter takes, ends included.
+    pub fn present_node(&mut self, heaviest: i128) -> (u64, i64, i64) {
+        let mass = self.between(0, heaviest);
+        let mass = self.one_of(&[0, mass, mass, heaviest]);
+        let most = MAX_PRESENT_MOMENTUM * mass;
+        let mut momentum = || {
+            let momentum = self.between(-most, most);
+            self.one_of(&[-most, momentum, momentum, most]) as i64
+        };
+        (mass as u64, momentum(), momentum())
     }
 }
 

@@ -1,13 +1,13 @@
 //! Two-dimensional APIC with the quadratic B-spline in whole numbers: the whole of document 01 with
-//! document 02's Papers 1 and 3, written from the documents, as literal sums over all particles and all
-//! nodes.
+//! document 02's Papers 1, 3 and 4, written from the documents, as literal sums over all particles and
+//! all nodes.
 //!
 //! | module | operations |
 //! | --- | --- |
 //! | [`spline`] | weights |
 //! | [`particle`] | read a record, write a record |
 //! | [`particle_set`] | check a set, totals |
-//! | [`transfer`] | scatter, update, gather |
+//! | [`transfer`] | scatter, adding scatter, update, gather |
 //! | [`edge`] | the rim that an update gives to the nodes of the band |
 //! | [`simulation`] | step, run |
 //! | [`bath_file`] | read a file, write a header |
@@ -46,4 +46,4 @@ pub use refusal::Refusal;
 pub use report::program;
 pub use simulation::{run, step, RunAnswer};
 pub use spline::weights;
-pub use transfer::{gather, scatter, update, Sums};
+pub use transfer::{adding_scatter, gather, scatter, update, Sums};

@@ -47,8 +47,10 @@ pub const MAX_DRAG: i128 = 255;
 pub const DRAG_UNIT: i128 = 256;
 /// Most steps of one run.
 pub const MAX_STEPS: i128 = 10_000;
-/// Greatest node mass that update takes.
+/// Greatest node mass that update and the adding scatter take, and that the latter leaves.
 pub const MAX_NODE_MASS: i128 = 1 << 43;
+/// Greatest size of a present node's momentum on one axis, for each unit of its mass.
+pub const MAX_PRESENT_MOMENTUM: i128 = 457_536;
 /// Greatest size of a node velocity on one axis, in 256ths.
 pub const MAX_NODE_VELOCITY: i128 = 131_072;
 

@@ -38,6 +38,10 @@ pub const STEPS: u32 = 17;
 pub const EDGE: u32 = 18;
 /// Drag above 255.
 pub const DRAG: u32 = 19;
+/// A present node's mass too large, or its momentum too large for its mass.
+pub const PRESENT_NODE: u32 = 20;
+/// A node's mass that would be too large.
+pub const ADDED_MASS: u32 = 21;
 
 /// What was refused: the number in document 01 or 02, and the record or node counted from 0, or 0 where
 /// there is none.
@@ -45,7 +49,7 @@ pub const DRAG: u32 = 19;
 pub struct Refusal {
     /// The limit's number.
     pub number: u32,
-    /// The record; for 11 and 12 the node; else 0.
+    /// The record; for 11, 12, 20 and 21 the node; else 0.
     pub place: usize,
 }
 

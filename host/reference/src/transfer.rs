@@ -1,17 +1,18 @@
 //! Scatter, update and gather: "The step" of document 01, by source document 003's transfers (3)
-//! and (4), with document 02's drag and rim.
+//! and (4), with document 02's drag and rim, and its adding scatter.
 
 use std::ops::Range;
 
 use crate::grid::{check_node_buffers, GridBuffers, Settings, Size};
 use crate::limits::{
-    D, DRAG_UNIT, MAX_B, MAX_NODE_MASS, MAX_NODE_VELOCITY, MAX_VELOCITY, NODE_VELOCITY_UNIT,
-    SPACING, WEIGHT_TOTAL,
+    D, DRAG_UNIT, MAX_B, MAX_NODE_MASS, MAX_NODE_VELOCITY, MAX_PRESENT_MOMENTUM, MAX_VELOCITY,
+    NODE_VELOCITY_UNIT, SPACING, WEIGHT_TOTAL,
 };
 use crate::particle::Particle;
 use crate::particle_set::{check_length, pack_records, walk};
 use crate::refusal::{
-    require, within, Refusal, NEW_AFFINE, NEW_PLACE, NEW_VELOCITY, NODE_MASS, NODE_VELOCITY,
+    require, within, Refusal, ADDED_MASS, NEW_AFFINE, NEW_PLACE, NEW_VELOCITY, NODE_MASS,
+    NODE_VELOCITY, PRESENT_NODE,
 };
 use crate::rounding::round_to_nearest;
 use crate::spline::{axis_weight, nearest_node};
@@ -106,6 +107,29 @@ fn fit<T: TryFrom<i128>>(number: i128) -> T {
         .expect("within 64 bits by the limits")
 }
 
+/// The set's nodes for this grid. Refused: 2; 1, also for the grid buffers; then the set.
+fn set_nodes(
+    sums: Sums,
+    size: Size,
+    records: &[u8],
+    grid: &GridBuffers,
+) -> Result<Vec<Node>, Refusal> {
+    size.check()?;
+    check_length(records)?;
+    grid.check_lengths(size)?;
+    let particles = walk(size, records, 0)?;
+    Ok(node_sums(sums, size, &particles))
+}
+
+/// Puts nodes into the grid, in the order of their indices.
+fn put_nodes(nodes: &[Node], grid: &mut GridBuffers) {
+    for (index, node) in nodes.iter().enumerate() {
+        grid.mass[index] = fit(node.mass);
+        grid.x[index] = fit(node.x);
+        grid.y[index] = fit(node.y);
+    }
+}
+
 /// Scatter: the grid then holds node masses and momenta of the set, whatever it held.
 /// Refused: 2; 1, also for the grid buffers; then the set.
 pub fn scatter(size: Size, records: &[u8], grid: &mut GridBuffers) -> Result<(), Refusal> {
@@ -119,15 +143,50 @@ pub fn scatter_by(
     records: &[u8],
     grid: &mut GridBuffers,
 ) -> Result<(), Refusal> {
-    size.check()?;
-    check_length(records)?;
-    grid.check_lengths(size)?;
-    let particles = walk(size, records, 0)?;
-    for (index, node) in node_sums(sums, size, &particles).iter().enumerate() {
-        grid.mass[index] = fit(node.mass);
-        grid.x[index] = fit(node.x);
-        grid.y[index] = fit(node.y);
-    }
+    let nodes = set_nodes(sums, size, records, grid)?;
+    put_nodes(&nodes, grid);
+    Ok(())
+}
+
+/// What a node holds and the set's share of it, or 20 or 21 at it.
+fn added_node(grid: &GridBuffers, index: usize, share: Node) -> Result<Node, Refusal> {
+    let present = Node {
+        mass: grid.mass[index].into(),
+        x: grid.x[index].into(),
+        y: grid.y[index].into(),
+    };
+    let most = MAX_PRESENT_MOMENTUM * present.mass;
+    let slow = within(present.x, most) && within(present.y, most);
+    require(present.mass <= MAX_NODE_MASS && slow, PRESENT_NODE, index)?;
+    let mass = present.mass + share.mass;
+    require(mass <= MAX_NODE_MASS, ADDED_MASS, index)?;
+    Ok(Node {
+        mass,
+        x: present.x + share.x,
+        y: present.y + share.y,
+    })
+}
+
+/// Adding scatter: the set's node masses and momenta are added to those that the grid holds.
+/// Refused: 2; 1, also for the grid buffers; the set; then for each node 20, 21.
+pub fn adding_scatter(size: Size, records: &[u8], grid: &mut GridBuffers) -> Result<(), Refusal> {
+    adding_scatter_by(Sums::Literal, size, records, grid)
+}
+
+/// Adding scatter by the given sums.
+pub fn adding_scatter_by(
+    sums: Sums,
+    size: Size,
+    records: &[u8],
+    grid: &mut GridBuffers,
+) -> Result<(), Refusal> {
+    let shares = set_nodes(sums, size, records, grid)?;
+    let nodes = shares
+        .into_iter()
+        .enumerate()
+        .map(|(index, share)| added_node(grid, index, share))
+        .collect::<Result<Vec<_>, _>>()?;
+    put_nodes(&nodes, grid);
     Ok(())
 }
 

@@ -1,8 +1,8 @@
 //! Every limit at its edge and one beyond.
 
 use reference::particle_set::pack_records;
-use reference::{check_set, gather, program, read_file, read_record, run, scatter, step, update};
-use reference::{write_header, write_record};
+use reference::{adding_scatter, check_set, gather, program, read_file, read_record, run, scatter};
+use reference::{step, update, write_header, write_record};
 use reference::{Edge, Grid, Header, Particle, Refusal, RunAnswer, Settings, Size};
 
 const SMALL: Size = Size { nx: 4, ny: 4 };
@@ -233,6 +233,101 @@ fn steps_of_a_run() {
         let settings = Settings::new(SMALL, 0, 0);
         let answer = run(settings, steps, &mut [], &mut grid.buffers());
         assert_eq!(answer, RunAnswer { completed, refusal });
+    }
+}
+
+const OBLONG: Size = Size { nx: 4, ny: 5 };
+
+/// Two records on 4 by 5 nodes, and their grid.
+fn scattered() -> (Vec<u8>, Grid) {
+    let records = pack_records(&[
+        Particle::at_rest(3, 900, 70, 51)
+            .moving(9, -62)
+            .with_b([800, -1, 2, -2000]),
+        Particle::at_rest(5, 7, 150, 201).moving(-40, 3),
+    ]);
+    let mut grid = Grid::zero(20);
+    scatter(OBLONG, &records, &mut grid.buffers()).unwrap();
+    (records, grid)
+}
+
+/// Adding scatter's answer where one node holds this and the others nothing. A refused call leaves the
+/// grid, an accepted one the sums.
+fn add_to_node(node: usize, mass: u64, x: i64, y: i64) -> Result<(), Refusal> {
+    let (records, mut sums) = scattered();
+    let mut grid = Grid::zero(20);
+    (grid.mass[node], grid.x[node], grid.y[node]) = (mass, x, y);
+    let before = grid.clone();
+    let answer = adding_scatter(OBLONG, &records, &mut grid.buffers());
+    if answer.is_ok() {
+        sums.mass[node] += mass;
+        sums.x[node] += x;
+        sums.y[node] += y;
+        assert_eq!(grid, sums);
+    } else {
+        assert_eq!(grid, before);
+    }
+    answer
+}
+
+#[test]
+fn present_nodes() {
+    for node in 0..20 {
+        let refused = Err(Refusal::at(20, node));
+        for mass in [0, 1, 3, 1 << 42] {
+            let most = 457_536 * mass as i64;
+            for sign in [1, -1] {
+                let (last, next) = (sign * most, sign * (most + 1));
+                assert_eq!(add_to_node(node, mass, last, -last), Ok(()));
+                assert_eq!(add_to_node(node, mass, next, -last), refused);
+                assert_eq!(add_to_node(node, mass, -last, next), refused);
+            }
+        }
+        for mass in [0, 1, 1 << 43, (1 << 43) + 1, u64::MAX] {
+            for momentum in [i64::MIN, i64::MAX] {
+                assert_eq!(add_to_node(node, mass, momentum, 0), refused);
+                assert_eq!(add_to_node(node, mass, 0, momentum), refused);
+            }
+        }
+        assert_eq!(add_to_node(node, (1 << 43) + 1, 0, 0), refused);
+        assert_eq!(add_to_node(node, u64::MAX, 0, 0), refused);
+    }
+}
+
+#[test]
+fn added_masses() {
+    let (_, shares) = scattered();
+    for (node, share) in shares.mass.into_iter().enumerate() {
+        let last = (1 << 43) - share;
+        let most = 457_536 * last as i64;
+        assert_eq!(add_to_node(node, last, most, -most), Ok(()));
+        let number = if share == 0 { 20 } else { 21 };
+        let refused = Err(Refusal::at(number, node));
+        assert_eq!(add_to_node(node, last + 1, most, -most), refused);
+        let beyond = Err(Refusal::at(20, node));
+        assert_eq!(add_to_node(node, last + 1, most + 457_537, 0), beyond);
+    }
+}
+
+/// The lowest node comes first, whichever of 20 and 21 it gets.
+#[test]
+fn lowest_node_first() {
+    let (records, shares) = scattered();
+    let reached: Vec<usize> = (0..20).filter(|&node| shares.mass[node] > 0).collect();
+    for &heavy in &reached {
+        for fast in (0..20).filter(|&node| node != heavy) {
+            let mut grid = Grid::filled(20, 9, 8, -7);
+            grid.mass[heavy] = 1 << 43;
+            grid.y[fast] = -9 * 457_536 - 1;
+            let before = grid.clone();
+            let answer = adding_scatter(OBLONG, &records, &mut grid.buffers());
+            let expected = if heavy < fast {
+                Refusal::at(21, heavy)
+            } else {
+                Refusal::at(20, fast)
+            };
+            assert_eq!((answer, grid), (Err(expected), before));
+        }
     }
 }
 

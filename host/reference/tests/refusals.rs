@@ -3,8 +3,8 @@
 
 use reference::limits::{HEADER_LENGTH, RECORD_LENGTH};
 use reference::particle_set::pack_records;
-use reference::{check_set, gather, read_file, read_record, run, scatter, step, totals};
-use reference::{update, write_header, write_record};
+use reference::{adding_scatter, check_set, gather, read_file, read_record, run, scatter, step};
+use reference::{totals, update, write_header, write_record};
 use reference::{Edge, Grid, Header, Particle, Refusal, Settings, Size};
 
 /// Everything that an operation may be given.
@@ -155,6 +155,28 @@ fn scatter_refusals() {
     climb(&faults, |call, records| {
         scatter(call.settings.size, records, &mut call.grid.buffers()).err()
     });
+}
+
+#[test]
+fn adding_scatter_refusals() {
+    let nodes: [Fault; 8] = [
+        (|call| call.grid.mass[2] = (1 << 43) + 1, 20, 2),
+        (|call| call.grid.x[2] = 9 * 457_536 + 1, 20, 2),
+        (|call| call.grid.y[2] = -9 * 457_536 - 1, 20, 2),
+        (|call| call.grid.y[5] = i64::MIN, 20, 5),
+        (|call| call.grid.mass[5] = 1 << 43, 21, 5),
+        (|call| call.grid.mass[6] = 0, 20, 6),
+        (|call| call.grid.mass[15] = 1 << 43, 21, 15),
+        (|call| call.grid.mass[19] = u64::MAX, 20, 19),
+    ];
+    let operation = |call: &mut Call, records: &mut Vec<u8>| {
+        adding_scatter(call.settings.size, records, &mut call.grid.buffers()).err()
+    };
+    // Buffer faults shorten the grid, so node faults are tried apart from them.
+    let buffers = [&SIZE[..], &RECORDS_LENGTH, &MASS_BUFFER, &VECTOR_BUFFERS];
+    climb(&[&buffers[..], &[&SET]].concat(), operation);
+    let faults = [&SIZE[..], &RECORDS_LENGTH, &MASS_BUFFER, &SET, &nodes];
+    climb(&faults, operation);
 }
 
 #[test]

@@ -1,10 +1,24 @@
-//! Sums over the nine nodes around a particle equal the literal sums over all nodes.
+//! Sums over the nine nodes around a particle equal the literal sums over all nodes; those of a set's
+//! parts, added one at a time, equal those of the set.
 
 use reference::generator::Generator;
+use reference::limits::RECORD_LENGTH;
 use reference::particle_set::{pack_records, particles};
 use reference::simulation::{run_by, step_by};
-use reference::transfer::{gather_by, scatter_by};
-use reference::{update, Grid, Settings, Size, Sums};
+use reference::transfer::{adding_scatter_by, gather_by, scatter_by};
+use reference::{adding_scatter, scatter, update, Grid, Settings, Size, Sums};
+
+/// Two grids of as many nodes, added.
+fn plus(one: &Grid, other: &Grid) -> Grid {
+    fn sums<T: Copy + std::ops::Add<Output = T>>(one: &[T], other: &[T]) -> Vec<T> {
+        one.iter().zip(other).map(|(&a, &b)| a + b).collect()
+    }
+    Grid {
+        mass: sums(&one.mass, &other.mass),
+        x: sums(&one.x, &other.x),
+        y: sums(&one.y, &other.y),
+    }
+}
 
 /// Operations on one set by both sums; every answer and buffer must agree.
 fn compare(generator: &mut Generator, size: Size, count: usize, v: i128, b: i128) {
@@ -18,6 +32,9 @@ fn compare(generator: &mut Generator, size: Size, count: usize, v: i128, b: i128
         let mut grid = Grid::filled(size.nodes(), 3, -4, 5);
         let scattered = scatter_by(sums, size, &records, &mut grid.buffers());
         let momenta = grid.clone();
+        let mut twice = grid.clone();
+        let added = adding_scatter_by(sums, size, &records, &mut twice.buffers());
+        assert_eq!((added, twice), (Ok(()), plus(&momenta, &momenta)));
         let updated = update(settings, &mut grid.buffers());
         let mut gathered_records = records.clone();
         let gathered = gather_by(sums, size, &mut gathered_records, &grid.x, &grid.y);
@@ -107,4 +124,117 @@ fn runs() {
         });
         assert_eq!(outcomes[0], outcomes[1]);
     }
+}
+
+/// The grid of a set.
+fn grid_of(size: Size, records: &[u8]) -> Grid {
+    let mut grid = Grid::filled(size.nodes(), 3, -4, 5);
+    scatter(size, records, &mut grid.buffers()).expect("an accepted set");
+    grid
+}
+
+/// The parts added one after the other to a zero grid.
+fn grid_of_parts<'a>(size: Size, parts: impl IntoIterator<Item = &'a [u8]>) -> Grid {
+    let mut grid = Grid::zero(size.nodes());
+    for part in parts {
+        adding_scatter(size, part, &mut grid.buffers()).expect("a part of an accepted set");
+    }
+    grid
+}
+
+/// Sets of some particles, the largest mass among them, and the set that has no record.
+fn sets(generator: &mut Generator) -> Vec<(Size, Vec<u8>)> {
+    let mut sets = Vec::new();
+    for (count, v, b) in [(0, 0, 0), (1, 63, 2047), (5, 20, 300), (9, 63, 2047)] {
+        for _ in 0..6 {
+            let size = Size::new(generator.between(4, 9), generator.between(4, 9));
+            sets.push((size, generator.particles(size, count, v, b)));
+        }
+    }
+    let size = Size::new(5, 4);
+    let mut heaviest = generator.particles(size, 129, 63, 2047);
+    for (k, p) in heaviest.iter_mut().enumerate() {
+        (p.x, p.y) = (64 + k as i128 % 2, 64);
+        p.mass = if k < 128 { 1023 } else { 128 };
+    }
+    sets.push((size, heaviest));
+    let pack = |(size, set): (Size, Vec<_>)| (size, pack_records(&set));
+    sets.into_iter().map(pack).collect()
+}
+
+#[test]
+fn two_parts_in_either_order() {
+    for (size, records) in sets(&mut Generator::new(15)) {
+        let whole = grid_of(size, &records);
+        for cut in (0..=records.len()).step_by(RECORD_LENGTH) {
+            let (first, last) = records.split_at(cut);
+            assert_eq!(grid_of_parts(size, [first, last]), whole);
+            assert_eq!(grid_of_parts(size, [last, first]), whole);
+        }
+    }
+}
+
+/// Every order of the numbers below this one.
+fn orders(count: usize) -> Vec<Vec<usize>> {
+    if count == 0 {
+        return vec![Vec::new()];
+    }
+    let with_last = |order: Vec<usize>| {
+        (0..count).map(move |place| {
+            let mut order = order.clone();
+            order.insert(place, count - 1);
+            order
+        })
+    };
+    orders(count - 1).into_iter().flat_map(with_last).collect()
+}
+
+#[test]
+fn parts_in_every_order() {
+    assert_eq!(orders(4).len(), 24);
+    let mut generator = Generator::new(16);
+    for (size, records) in sets(&mut generator) {
+        let whole = grid_of(size, &records);
+        for count in 1..=4 {
+            let parts = generator.parts(&records, count);
+            for order in orders(count) {
+                let ordered = order.iter().map(|&part| &parts[part][..]);
+                assert_eq!(grid_of_parts(size, ordered), whole, "{order:?}");
+            }
+        }
+    }
+}
+
+/// What an adding scatter leaves can be added to and updated.
+#[test]
+fn after_adding() {
+    let mut generator = Generator::new(17);
+    let mut added = 0;
+    for _ in 0..20 {
+        for (size, records) in sets(&mut generator) {
+            let heaviest = generator.one_of(&[1, 1 << 30, 1 << 42, 1 << 43]);
+            let mut grid = Grid::zero(size.nodes());
+            for node in 0..size.nodes() {
+                let held = generator.present_node(heaviest);
+                (grid.mass[node], grid.x[node], grid.y[node]) = held;
+            }
+            let present = grid.clone();
+            let answer = adding_scatter(size, &records, &mut grid.buffers());
+            match answer.map_err(|refusal| refusal.number) {
+                Ok(()) => assert_eq!(grid, plus(&present, &grid_of(size, &records))),
+                Err(number) => {
+                    assert_eq!((number, &grid), (21, &present));
+                    continue;
+                }
+            }
+            added += 1;
+            let left = grid.clone();
+            assert_eq!(adding_scatter(size, &[], &mut grid.buffers()), Ok(()));
+            assert_eq!(grid, left);
+            let gravity = |generator: &mut Generator| generator.one_of(&[-4096, 7, 4096]);
+            let settings = Settings::new(size, gravity(&mut generator), gravity(&mut generator));
+            assert_eq!(update(settings, &mut grid.buffers()), Ok(()));
+        }
+    }
+    assert!(added > 100, "only {added} were accepted");
 }

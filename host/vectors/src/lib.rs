@@ -27,8 +27,8 @@ mod text;
 
 use reference::report::program;
 use reference::{
-    check_set, gather, read_file, read_record, run, scatter, step, totals, update, weights,
-    write_header, write_record,
+    adding_scatter, check_set, gather, read_file, read_record, run, scatter, step, totals, update,
+    weights, write_header, write_record,
 };
 use reference::{Grid, Header, Particle, Refusal, RunAnswer, Settings, Size, Totals};
 
@@ -44,6 +44,7 @@ pub enum Operation {
     Totals(Size),
     Weights(i128),
     Scatter(Size),
+    AddingScatter(Size),
     Update(Settings),
     Gather(Size),
     Step(Settings),
@@ -118,6 +119,9 @@ pub fn perform(operation: Operation, buffers: &mut Buffers) -> Answer {
         Operation::Weights(q) => weights(q).map(Answer::Weights),
         Operation::Scatter(size) => {
             scatter(size, bytes, &mut grid.buffers()).map(|()| Answer::Done)
+        }
+        Operation::AddingScatter(size) => {
+            adding_scatter(size, bytes, &mut grid.buffers()).map(|()| Answer::Done)
         }
         Operation::Update(settings) => update(settings, &mut grid.buffers()).map(|()| Answer::Done),
         Operation::Gather(size) => gather(size, bytes, &grid.x, &grid.y).map(|()| Answer::Done),

@@ -64,6 +64,7 @@ impl Display for Operation {
             Operation::Totals(size) => write!(f, "totals {}", size_text(size)),
             Operation::Weights(q) => write!(f, "weights q {q}"),
             Operation::Scatter(size) => write!(f, "scatter {}", size_text(size)),
+            Operation::AddingScatter(size) => write!(f, "adding-scatter {}", size_text(size)),
             Operation::Update(settings) => write!(f, "update {}", settings_text(settings)),
             Operation::Gather(size) => write!(f, "gather {}", size_text(size)),
             Operation::Step(settings) => write!(f, "step {}", settings_text(settings)),
@@ -204,9 +205,10 @@ fn named_buffers(operation: &Operation, buffers: &Buffers) -> Vec<NamedBuffer> {
         Operation::CheckSet(_) | Operation::Totals(_) => vec![records],
         Operation::Update(_) => vec![mass, x, y],
         Operation::Gather(_) => vec![records, x, y],
-        Operation::Scatter(_) | Operation::Step(_) | Operation::Run(..) => {
-            vec![records, mass, x, y]
-        }
+        Operation::Scatter(_)
+        | Operation::AddingScatter(_)
+        | Operation::Step(_)
+        | Operation::Run(..) => vec![records, mass, x, y],
     }
 }
 

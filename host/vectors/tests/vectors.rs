@@ -5,13 +5,14 @@ use std::collections::{BTreeMap, BTreeSet};
 use vectors::{cases, Answer, Case, Operation};
 
 /// The refusals that documents 01 and 02 list for each operation.
-const LISTED: [(&str, &[u32]); 12] = [
+const LISTED: [(&str, &[u32]); 13] = [
     ("read-record", &[1, 4, 5, 6]),
     ("write-record", &[1, 4, 5, 6, 7]),
     ("check-set", &[1, 2, 4, 5, 6, 7, 8, 9]),
     ("totals", &[1, 2, 4, 5, 6, 7, 8, 9]),
     ("weights", &[7]),
     ("scatter", &[1, 2, 4, 5, 6, 7, 8, 9]),
+    ("adding-scatter", &[1, 2, 4, 5, 6, 7, 8, 9, 20, 21]),
     ("update", &[1, 2, 10, 11, 12, 18, 19]),
     ("gather", &[1, 2, 4, 5, 6, 7, 8, 9, 12, 13, 14, 15]),
     ("step", &[1, 2, 4, 5, 6, 7, 8, 9, 10, 13, 14, 15, 18, 19]),

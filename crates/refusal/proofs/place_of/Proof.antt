@@ -62,6 +62,12 @@ enum-told-7 c = search needs
 enum-told-8 : tie.Need-enum-told-8
 enum-told-8 c = search needs
 
+enum-known-refusal-12 : tie.Need-enum-known-refusal-12
+enum-known-refusal-12 c = search needs
+
+enum-known-refusal-13 : tie.Need-enum-known-refusal-13
+enum-known-refusal-13 c = search needs
+
 returns : tie.Need-returns
 returns c = sym (ap place (c .enum-told .given .1))
 
@@ -119,6 +125,12 @@ returns-18 c = sym (ap place (c .enum-told7 .given .1))
 returns-19 : tie.Need-returns-19
 returns-19 c = sym (ap place (c .enum-told8 .given .1))
 
+returns-20 : tie.Need-returns-20
+returns-20 c = sym (ap place (c .before .refusal12 .given .1))
+
+returns-21 : tie.Need-returns-21
+returns-21 c = sym (ap place (c .before .refusal13 .given .1))
+
 pub place-of-spec : {M : Type 1} → statement M
 place-of-spec =
     tie.close
@@ -142,6 +154,8 @@ place-of-spec =
     enum-told-6
     enum-told-7
     enum-told-8
+    enum-known-refusal-12
+    enum-known-refusal-13
     returns
     returns-2
     returns-3
@@ -160,4 +174,6 @@ place-of-spec =
     returns-16
     returns-17
     returns-18
-    returns-19)
+    returns-19
+    returns-20
+    returns-21)

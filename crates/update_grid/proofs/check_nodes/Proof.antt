@@ -14,13 +14,13 @@ use mir.Facts.{toZ-ofZ}
 use borrow.Author.Needs.{needs, sfits-of}
 use borrow.Author.Tests.{not-false}
 use Rattle.refusal.specs.Refused.{Answer, done, forEach}
-use Rattle.refusal.proofs.Answers.{each-end}
+use Rattle.refusal.proofs.Answers.{each-end, each-on, each-stop}
 use Rattle.limits.specs.Limits.{mostGravity}
 use Rattle.spline.specs.Kernel.{Spread}
 use Rattle.update.specs.Update.{checkNode, checkNodeAt, checkNodes, toldUpdate}
-use Rattle.update_node.specs.Internal.{isCalm}
-use Rattle.update.proofs.Walk.{walk-start, walk-on, walk-ends}
-use Rattle.update_node.proofs.Calm.{calm-passes}
+use Rattle.update.specs.Internal.{isCalm}
+use Rattle.update.proofs.Walk.{walk-start}
+use Rattle.update.proofs.Calm.{calm-passes}
 use Rattle.update_grid.proofs.check_nodes.Statement.{statement}
 use Rattle.update_grid.proofs.check_nodes.Tie as tie
 
@@ -36,8 +36,8 @@ at-node D gx gy mass px py k f g e = ap₂ (λ x y. checkNode D gx gy k (getD ma
 -- .. and `node::is_calm`
 at-calm : {r : Bool} (D : ℕ) (gx gy : ℤ) (mass : List ℕ) (px py : List ℤ) (k : ℕ) → Spread D → natAbs gx ≤ mostGravity → natAbs gy ≤ mostGravity → SFits w64 (getD px k (pos 0)) → SFits w64 (getD py k (pos 0)) → r ≡ isCalm (getD mass k 0) (toZ w64 (ofZ w64 (getD px k (pos 0)))) (toZ w64 (ofZ w64 (getD py k (pos 0)))) → r ≡ true → checkNodeAt D gx gy mass px py k ≡ done
 at-calm D gx gy mass px py k s hx hy f g e t =
-    calm-passes D gx gy k (getD mass k 0) (getD px k (pos 0)) (getD py k (pos 0)) s hx hy
-    (ap₂ (λ x y. isCalm (getD mass k 0) x y) (sym (toZ-ofZ f)) (sym (toZ-ofZ g)) ∙ sym e ∙ t)
+    calm-passes D gx gy (getD mass k 0) (getD px k (pos 0)) (getD py k (pos 0)) s hx hy
+    (ap₂ (λ x y. isCalm (getD mass k 0) x y) (sym (toZ-ofZ f)) (sym (toZ-ofZ g)) ∙ sym e ∙ t) k
 
 abbrev Inv-loop : tie.InvT-loop
 Inv-loop count d gx gy mass px py k₀ k = (k ≤ count) × (checkNodes d count (toZ w64 gx) (toZ w64 gy) mass px py ≡ forEach (checkNodeAt d (toZ w64 gx) (toZ w64 gy) mass px py) k (count - k))
@@ -110,7 +110,7 @@ returns c =
     let px = s .args .px .now in
     let py = s .args .py .now in
     let k = l .loop .k in
-    sym (walk-ends (s .args .d) (s .args .count) gx gy mass px py k _ _ (t .loop-test .taken)
+    sym (each-stop (checkNodeAt (s .args .d) gx gy mass px py) k (s .args .count) (t .loop-test .taken)
     (at-node (s .args .d) gx gy mass px py k (sfits-of (checked .before .before .check-arg .given)) (sfits-of (checked .before .check-arg2 .given)) (checked .check .ensures) ∙ ap toldUpdate (c .before .refusal .given .1)))
     ∙ sym (l .loop .inv .1)
     ∙ given (s .args .count) (s .args .d) (s .args .gx) (s .args .gy) mass px py (s .fits .gx) (s .fits .gy)
@@ -145,7 +145,7 @@ loop-again c =
     (not-false _ (b .left)))
     (c .if1 .came) in (
       omega arith,
-      l .loop .inv .1 ∙ walk-on (s .args .d) (s .args .count) gx gy mass px py k (t .loop-test .taken) passes,
+      l .loop .inv .1 ∙ each-on (checkNodeAt (s .args .d) gx gy mass px py) k (s .args .count) (t .loop-test .taken) passes,
     )
 
 returns-2 : tie.Need-returns-2 Inv-loop μ-loop

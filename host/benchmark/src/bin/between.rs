@@ -1,8 +1,8 @@
 //! Times one build of the static library against another.
 //!
-//! `between BEFORE AFTER [ROUNDS] [NAME]`: both are static libraries; 101 rounds where no number is given;
-//! only the lines whose name has NAME in it. The ratio is that of AFTER to BEFORE. The same library twice
-//! tells what the machine's noise is.
+//! `between BEFORE AFTER [ROUNDS] [[-]NAME]`: both are static libraries; 101 rounds where no number is given;
+//! only the lines whose name has NAME in it, or, with -NAME, has not. The ratio is that of AFTER to BEFORE. The
+//! same library twice tells what the machine's noise is.
 
 use std::path::Path;
 
@@ -16,7 +16,7 @@ const COPIES: usize = 4;
 const MOST: f64 = 1.02;
 
 fn main() {
-    let usage = "between BEFORE AFTER [ROUNDS] [NAME]";
+    let usage = "between BEFORE AFTER [ROUNDS] [[-]NAME]";
     let (files, rounds, chosen) = arguments(2, usage);
     let room = Room::new("between");
     let load = |file: &String, name: String| -> Library {

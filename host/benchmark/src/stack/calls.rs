@@ -112,6 +112,7 @@ impl Bath {
             Operation::CheckSet(size),
             Operation::Totals(size),
             Operation::Scatter(size),
+            Operation::AddingScatter(size),
             Operation::Update(self.settings),
             Operation::Gather(size),
             Operation::Step(self.settings),
@@ -137,13 +138,14 @@ impl Bath {
 }
 
 /// The inputs of the comparison for each operation.
-const MADE: [fn(&mut Generator) -> Call; 12] = [
+const MADE: [fn(&mut Generator) -> Call; 13] = [
     inputs::read_record,
     inputs::write_record,
     inputs::check_set,
     inputs::totals,
     inputs::weights,
     inputs::scatter,
+    inputs::adding_scatter,
     inputs::update,
     inputs::gather,
     inputs::step,
@@ -152,11 +154,11 @@ const MADE: [fn(&mut Generator) -> Call; 12] = [
     inputs::write_header,
 ];
 
-/// All calls: baths of every size on the smallest and the largest grid, the vectors, and inputs of the
-/// comparison.
+/// All calls: baths of every size on the smallest grid, on the largest and on one between, the vectors, and
+/// inputs of the comparison.
 pub fn all(mut each: impl FnMut(Operation, Buffers)) {
     for count in COUNTS {
-        for side in [4, 48] {
+        for side in [4, 16, 48] {
             for bath in Bath::new(count, side).variants() {
                 bath.calls(&mut each);
             }

@@ -8,11 +8,13 @@ use reference::limits::{HEADER_LENGTH, RECORD_LENGTH};
 use vectors::Operation;
 
 /// The rows: the name in README, and in the C header where it is a call.
-pub const ROWS: [(&str, Option<&str>); 14] = [
+pub const ROWS: [(&str, Option<&str>); 16] = [
     ("run", Some("gondwize_run")),
     ("run of no step", Some("gondwize_run, no step")),
     ("step", Some("gondwize_step")),
     ("scatter", Some("gondwize_scatter")),
+    ("adding scatter", Some("gondwize_adding_scatter")),
+    ("adding scatter, to 320 nodes", Some(".. to 320 nodes")),
     ("update", Some("gondwize_update")),
     ("gather", Some("gondwize_gather")),
     ("check a set", Some("gondwize_check_set")),
@@ -33,8 +35,9 @@ pub const COLUMNS: [&str; 6] = ["refused", "0", "1", "to 64", "to 512", "to 4,09
 /// The most particles of each column but the first.
 pub const MOST: [usize; 5] = [0, 1, 64, 512, 4096];
 
-/// The refusals that a step which was begun tells; such a call counts by its particles.
-const LATE: [u64; 3] = [13, 14, 15];
+/// The refusals that a step which was begun tells, and a set that was scattered; such a call counts by
+/// its particles.
+const LATE: [u64; 5] = [13, 14, 15, 20, 21];
 
 /// A place in the table.
 #[derive(Clone, Copy, Debug, PartialEq, Eq, PartialOrd, Ord)]
@@ -64,6 +67,10 @@ pub fn cell(operation: Operation, length: usize, answer: u64) -> Cell {
         Operation::Run(..) => ("run", length / RECORD_LENGTH),
         Operation::Step(_) => ("step", length / RECORD_LENGTH),
         Operation::Scatter(_) => ("scatter", length / RECORD_LENGTH),
+        Operation::AddingScatter(size) if size.check().is_ok() && size.nodes() <= 320 => {
+            ("adding scatter, to 320 nodes", length / RECORD_LENGTH)
+        }
+        Operation::AddingScatter(_) => ("adding scatter", length / RECORD_LENGTH),
         Operation::Update(_) => ("update", 0),
         Operation::Gather(_) => ("gather", length / RECORD_LENGTH),
         Operation::CheckSet(_) => ("check a set", length / RECORD_LENGTH),

@@ -1,4 +1,4 @@
-//! Scatter, update, gather.
+//! Scatter, adding scatter, update, gather.
 
 use reference::limits::{D, MAX_B, MAX_VELOCITY};
 use reference::particle_set::pack_records;
@@ -11,9 +11,20 @@ use super::{REFUSED_GRIDS, REFUSED_SIZES, SMALL};
 use crate::{Buffers, Case, Operation};
 
 pub fn cases() -> Vec<Case> {
+    let scatter: fn(Size) -> Operation = Operation::Scatter;
+    let adding: fn(Size) -> Operation = Operation::AddingScatter;
     [
-        scatter_refusals(),
-        scatter_cases(),
+        scatter_refusals("scatter", scatter, |_| {}),
+        scatter_cases("scatter", scatter),
+        // A node would be refused too, after the set.
+        scatter_refusals("adding-scatter", adding, |grid| grid.mass[0] = u64::MAX),
+        scatter_cases("adding-scatter", adding),
+        adding_present_nodes(),
+        adding_ends(),
+        adding_masses(),
+        adding_orders(),
+        adding_sizes(),
+        adding_cases(),
         update_refusals(),
         update_cases(),
         update_refused_nodes(),
@@ -30,52 +41,38 @@ pub fn cases() -> Vec<Case> {
     .concat()
 }
 
-fn scatter_refusals() -> Vec<Case> {
+/// Refusals of a scatter onto a grid that is changed so before.
+fn scatter_refusals(
+    scatter: &str,
+    operation: fn(Size) -> Operation,
+    changed: fn(&mut Grid),
+) -> Vec<Case> {
+    let refused = |name: &str, size: Size, mut buffers: Buffers, stated: (u32, usize)| {
+        changed(&mut buffers.grid);
+        let name = format!("{scatter}/{name}");
+        case(name, operation(size), buffers, Some(stated))
+    };
     let mut cases = Vec::new();
     for (name, size) in REFUSED_SIZES {
         let buffers = with_grid([0xA5; 13], SMALL);
-        let operation = Operation::Scatter(size);
-        cases.push(case(
-            format!("scatter/{name}"),
-            operation,
-            buffers,
-            Some((2, 0)),
-        ));
+        cases.push(refused(name, size, buffers, (2, 0)));
     }
     for (name, change) in REFUSED_GRIDS {
         // The set would be refused too, after the length.
         let mut buffers = with_grid(Particle { mass: 0, ..lone(0) }.pack(), SMALL);
         change(&mut buffers.grid);
-        let operation = Operation::Scatter(SMALL);
-        cases.push(case(
-            format!("scatter/{name}"),
-            operation,
-            buffers,
-            Some((1, 0)),
-        ));
+        cases.push(refused(name, SMALL, buffers, (1, 0)));
     }
     for (name, records, stated) in refused_sets() {
-        let buffers = with_grid(records, SMALL);
-        let operation = Operation::Scatter(SMALL);
-        cases.push(case(
-            format!("scatter/{name}"),
-            operation,
-            buffers,
-            Some(stated),
-        ));
+        cases.push(refused(name, SMALL, with_grid(records, SMALL), stated));
     }
     cases
 }
 
-fn scatter_cases() -> Vec<Case> {
+fn scatter_cases(scatter: &str, operation: fn(Size) -> Operation) -> Vec<Case> {
     let scatter = |name: &str, size: Size, records: Vec<u8>| {
-        let name = format!("scatter/{name}");
-        case(
-            name,
-            Operation::Scatter(size),
-            with_grid(records, size),
-            None,
-        )
+        let name = format!("{scatter}/{name}");
+        case(name, operation(size), with_grid(records, size), None)
     };
     let small = |name: &str, particles: &[Particle]| scatter(name, SMALL, pack_records(particles));
     let mut cases: Vec<Case> = accepted_sets()
@@ -139,6 +136,209 @@ fn largest_momentum(sign: i128) -> Particle {
     Particle::at_rest(0, 1, x, y)
         .moving(v, -v)
         .with_b([b(i, x), b(j, y), -b(i, x), -b(j, y)])
+}
+
+/// The grid of the adding scatter's nodes.
+const OBLONG: Size = Size { nx: 6, ny: 4 };
+
+/// The first, a middle and the last node of 6 by 4, and what [`section`] adds to the mass of each.
+const REACHED: [(usize, u64); 3] = [
+    (0, 5 * 1024 * 1024),
+    (9, 7 * 6144 * 6144 + 11 * 1024 * 1024),
+    (23, 11 * 1024 * 1024),
+];
+
+/// Particles on 6 by 4 nodes, each at a node's place.
+fn section() -> Vec<u8> {
+    let at =
+        |identifier, mass, i: i128, j: i128| Particle::at_rest(identifier, mass, 64 * i, 64 * j);
+    pack_records(&[
+        at(2, 5, 1, 1).moving(9, -62).with_b([800, -1, 2, -2000]),
+        at(3, 7, 3, 1).moving(-40, 3).with_b([-7, 600, 50, 4]),
+        at(8, 11, 4, 2).moving(63, 1).with_b([2047, -300, -2, 91]),
+    ])
+}
+
+/// An adding scatter.
+fn add_to_grid(
+    name: &str,
+    size: Size,
+    bytes: Vec<u8>,
+    grid: Grid,
+    stated: Option<(u32, usize)>,
+) -> Case {
+    let name = format!("adding-scatter/{name}");
+    let buffers = Buffers { bytes, grid };
+    case(name, Operation::AddingScatter(size), buffers, stated)
+}
+
+/// A node's mass and momenta.
+type Held = (u64, i64, i64);
+
+/// The adding scatter of a set onto 6 by 4 nodes of which some hold these, the others what is accepted.
+fn add_to_nodes(
+    name: &str,
+    records: Vec<u8>,
+    nodes: &[(usize, Held)],
+    stated: Option<(u32, usize)>,
+) -> Case {
+    let mut grid = distinct_grid(OBLONG);
+    for &(node, held) in nodes {
+        (grid.mass[node], grid.x[node], grid.y[node]) = held;
+    }
+    add_to_grid(name, OBLONG, records, grid, stated)
+}
+
+/// The largest present momentum of a node, and the next.
+fn adding_present_nodes() -> Vec<Case> {
+    let mut cases = Vec::new();
+    let masses = [
+        ("mass-0", 0, section()),
+        ("mass-3", 3, section()),
+        ("mass-2^42", HEAVY / 2, section()),
+        ("mass-2^43-empty-set", HEAVY, Vec::new()),
+    ];
+    for (mass_name, mass, records) in masses {
+        for (node, _) in REACHED {
+            for (sign, way) in [(1, "up"), (-1, "down")] {
+                let last = sign * 457_536 * mass as i64;
+                let next = last + sign;
+                let name = format!("node-{node}-{mass_name}-momentum-{way}");
+                let mut add = |name: &str, x: i64, y: i64, number: u32| {
+                    let stated = (number > 0).then_some((number, node));
+                    let nodes = [(node, (mass, x, y))];
+                    cases.push(add_to_nodes(name, records.clone(), &nodes, stated));
+                };
+                add(&name, last, -last, 0);
+                add(&format!("{name}-passed-x"), next, -last, 20);
+                add(&format!("{name}-passed-y"), -last, next, 20);
+            }
+        }
+    }
+    cases
+}
+
+/// Present masses above 2^43 and the ends of the numbers' types, with a set and with one that has no
+/// record.
+fn adding_ends() -> Vec<Case> {
+    let mut cases = Vec::new();
+    for (set_name, records) in [("set", section()), ("empty-set", Vec::new())] {
+        for (node, _) in REACHED {
+            let mut refused = |name: &str, held: Held| {
+                let name = format!("node-{node}-{name}-{set_name}");
+                let nodes = [(node, held)];
+                cases.push(add_to_nodes(
+                    &name,
+                    records.clone(),
+                    &nodes,
+                    Some((20, node)),
+                ));
+            };
+            refused("mass-2^43+1", (HEAVY + 1, 0, 0));
+            refused("mass-2^64-1", (u64::MAX, 5, -4));
+            for (name, mass) in [("0", 0), ("1", 1), ("2^43", HEAVY), ("2^64-1", u64::MAX)] {
+                refused(&format!("mass-{name}-smallest-x"), (mass, i64::MIN, 0));
+                refused(&format!("mass-{name}-largest-x"), (mass, i64::MAX, 0));
+                refused(&format!("mass-{name}-smallest-y"), (mass, 0, i64::MIN));
+                refused(&format!("mass-{name}-largest-y"), (mass, 0, i64::MAX));
+            }
+        }
+    }
+    cases
+}
+
+/// The largest mass that a node may hold before, and the next.
+fn adding_masses() -> Vec<Case> {
+    let mut cases = Vec::new();
+    for (node, share) in REACHED {
+        let last = HEAVY - share;
+        let p = 457_536 * last as i64;
+        for (name, mass, number) in [
+            ("filled", last, 0),
+            ("passed", last + 1, 21),
+            ("full", HEAVY, 21),
+        ] {
+            let stated = (number > 0).then_some((number, node));
+            let add = |name: &str, x, y| {
+                let name = format!("node-{node}-{name}");
+                add_to_nodes(&name, section(), &[(node, (mass, x, y))], stated)
+            };
+            cases.extend([
+                add(name, 7, -8),
+                add(&format!("{name}-up-and-down"), p, -p),
+                add(&format!("{name}-down-and-up"), -p, p),
+            ]);
+        }
+    }
+    cases
+}
+
+/// Two nodes that are refused, and a node that is refused twice over.
+fn adding_orders() -> Vec<Case> {
+    const FAST: i64 = 3 * 457_536 + 1;
+    let refused = |name, nodes: &[_], number, node| {
+        add_to_nodes(name, section(), nodes, Some((number, node)))
+    };
+    let fast_x = (3, FAST, 0);
+    let fast_y = (3, 0, -FAST);
+    let full = (HEAVY, 0, 0);
+    vec![
+        refused("20-at-0-21-at-9", &[(0, fast_y), (9, full)], 20, 0),
+        refused("21-at-0-20-at-9", &[(0, full), (9, fast_x)], 21, 0),
+        refused("20-at-9-21-at-23", &[(9, fast_x), (23, full)], 20, 9),
+        refused("21-at-9-20-at-23", &[(9, full), (23, fast_y)], 21, 9),
+        refused("20-at-8-21-at-9", &[(8, fast_x), (9, full)], 20, 8),
+        refused("21-at-9-20-at-10", &[(9, full), (10, fast_y)], 21, 9),
+        refused("20-at-8-and-at-13", &[(8, fast_y), (13, fast_x)], 20, 8),
+        refused("20-at-13-and-at-18", &[(13, fast_x), (18, fast_y)], 20, 13),
+        refused("21-at-0-and-at-23", &[(23, full), (0, full)], 21, 0),
+        refused("20-at-0-and-at-23", &[(23, fast_x), (0, fast_y)], 20, 0),
+        refused("20-before-21-x", &[(9, (HEAVY, i64::MIN, 0))], 20, 9),
+        refused("20-before-21-y", &[(9, (HEAVY, 0, i64::MAX))], 20, 9),
+        refused("20-before-21-mass", &[(9, (HEAVY + 1, 0, 0))], 20, 9),
+    ]
+}
+
+/// Grids on both sides of the size at which the engine takes larger ones of its own, and a large one: a set
+/// that is added, and the last node refused.
+fn adding_sizes() -> Vec<Case> {
+    let mut cases = Vec::new();
+    for (nx, ny) in [(20, 16), (17, 19), (48, 47)] {
+        let size = Size::new(nx, ny);
+        let last = size.nodes() - 1;
+        let mut add = |name: &str, (mass, x, y): Held, stated: Option<(u32, usize)>| {
+            let mut grid = Grid::filled(size.nodes(), 3, 5, -7);
+            (grid.mass[last], grid.x[last], grid.y[last]) = (mass, x, y);
+            let name = format!("on-{nx}-by-{ny}-{name}");
+            cases.push(add_to_grid(&name, size, corners(size, 3), grid, stated));
+        };
+        add("accepted", (3, 5, -7), None);
+        add("present", (3, 0, -3 * 457_536 - 1), Some((20, last)));
+        add("full", (HEAVY, 0, 0), Some((21, last)));
+    }
+    cases
+}
+
+/// Sets added to nodes that hold something different each, and to nodes that hold nothing.
+fn adding_cases() -> Vec<Case> {
+    let add = |name: &str, size: Size, records: Vec<u8>, grid: Grid| {
+        add_to_grid(name, size, records, grid, None)
+    };
+    let (tall, wide) = (Size::new(4, 7), Size::new(48, 4));
+    vec![
+        add_to_nodes("to-distinct", section(), &[], None),
+        add_to_nodes("empty-to-distinct", Vec::new(), &[], None),
+        add("to-nothing", OBLONG, section(), Grid::zero(24)),
+        add("empty-to-nothing", OBLONG, Vec::new(), Grid::zero(24)),
+        add("on-4-by-7", tall, corners(tall, 3), distinct_grid(tall)),
+        add("on-48-by-4", wide, corners(wide, 5), distinct_grid(wide)),
+        add(
+            "heaviest-to-distinct",
+            OBLONG,
+            pack_records(&heaviest(largest_momentum(-1))),
+            distinct_grid(OBLONG),
+        ),
+    ]
 }
 
 fn settings(gx: i128, gy: i128) -> Settings {

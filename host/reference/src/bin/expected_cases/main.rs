@@ -11,8 +11,8 @@ use input::{Line, List, Lists};
 use output::{answer, buffers, bytes, numbers, values};
 use reference::limits::{MAX_SET_LENGTH, RECORD_LENGTH};
 use reference::{
-    check_set, gather, read_file, read_record, run, scatter, step, totals, update, weights,
-    write_header, write_record, Edge, Header, Particle, Settings, Size,
+    adding_scatter, check_set, gather, read_file, read_record, run, scatter, step, totals, update,
+    weights, write_header, write_record, Edge, Header, Particle, Settings, Size,
 };
 
 /// The bytes that are kept from line to line, and how many of them a call is lent.
@@ -106,6 +106,7 @@ fn on_grid(line: &Line, lists: &mut Lists, kept: &mut Kept) -> Option<String> {
     let lent = kept.lent();
     let mut shown = match (line.name, &line.numbers[..]) {
         ("scatter", &[nx, ny]) => answer(scatter(Size::new(nx, ny), lent, &mut lists.lent())),
+        ("adding", &[nx, ny]) => answer(adding_scatter(Size::new(nx, ny), lent, &mut lists.lent())),
         ("update", given) => answer(update(settings(given), &mut lists.lent())),
         ("step", given) => {
             let answered = step(settings(given), lent, &mut lists.lent());
