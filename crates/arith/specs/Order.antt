@@ -1,7 +1,7 @@
 -- The order of the integers of lib.IntN: linear facts in one line, the laws by name, and allowances.
 --     linear                        a linear fact from others, in one line (below)
 --     ≤ℤ-trans, ≤ℤ-antisym, ≤ℤ-of-eq, ≤ℤ-of-<ℤ, ≤ℤ-total                   the order
---     leZ-true, leZ-false, ltZ-true, ltZ-false      what a test's flag tells
+--     leZ-true, leZ-false, ltZ-true, ltZ-false      what a test's flag tells; ≤ℤ-leZ, <ℤ-leZ     the flag from the fact
 --     pos-mono, pos-cancel, pos-nonneg, pos-positive, nonneg-pos     the natural numbers among the integers
 --     +ℤ-mono, difference-nonneg                    sums and differences
 --     *ℤ-nonneg, *ℤ-mono-left, *ℤ-cancel-left       products
@@ -19,7 +19,7 @@ use Prim.Native.Nat.{ℕ, zero, suc, _+_, _*_, _≤_, _<_}
 use native.Mathlib.Omega.{arith}
 use lib.Dec.{T, leb, leb→le, le→leb, lt→ltb, leb·suc-suc, nleb→lt}
 use lib.IntN.{ℤ, pos, negsuc, sucℤ, predℤ, negℤ, _+ℤ_, _-ℤ_, _*ℤ_, +ℤ-idl, +ℤ-idr, +ℤ-one, +ℤ-sucℤ, +ℤ-predℤ, *ℤ-zero, natAbs}
-use lib.Signed.{leZ, ltZ, _≤ℤ_, _<ℤ_, ≤ℤ-refl, leZ-yes, ltZ-yes, yes-nonNeg, pos-natAbs}
+use lib.Signed.{leZ, ltZ, _≤ℤ_, _<ℤ_, ≤ℤ-refl, leZ-yes, ltZ-yes, clashℤ, yes-nonNeg, pos-natAbs}
 use Rattle.arith.specs.Ring.{ℤ-steps}
 use Rattle.arith.specs.Solver.{ring, quote}
 
@@ -303,6 +303,20 @@ ltZ-true a b e = ltZ-yes (subst T (sym e) tt)
 
 pub ltZ-false : (a b : ℤ) → ltZ a b ≡ false → b ≤ℤ a
 ltZ-false a b e = ⊎-elim (λ h. h) (λ h. absurd (subst T e (h .lt))) (≤ℤ-total b a)
+
+is-true : (t : Bool) → T t → t ≡ true
+is-true true h = refl
+is-true false h = absurd h
+
+is-false : (t : Bool) → (T t → ⊥) → t ≡ false
+is-false true h = absurd (h tt)
+is-false false h = refl
+
+pub ≤ℤ-leZ : {a b : ℤ} → a ≤ℤ b → leZ a b ≡ true
+≤ℤ-leZ {a} {b} h = is-true (leZ a b) (h .le)
+
+pub <ℤ-leZ : {a b : ℤ} → b <ℤ a → leZ a b ≡ false
+<ℤ-leZ {a} {b} h = is-false (leZ a b) (λ t. clashℤ h (leZ-yes t))
 
 -- ---- the order and the operations
 

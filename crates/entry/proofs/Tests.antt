@@ -2,15 +2,16 @@
 -- Assumes nothing.
 use mathlib.Core.Path.{_≡_, refl, sym, ap, _∙_}
 use mathlib.Core.Bool.{Bool, true, false, _&&_, true≢false}
-use Prim.Native.Nat.{zero, suc, _<_, _-_, _^_}
+use Prim.Native.Nat.{ℕ, zero, suc, _<_, _-_, _^_}
 use native.Mathlib.Omega.{arith}
 use lib.Dec.{T, leb, eqb, leb·suc-suc}
 use lib.IntN.{ℤ, pos, negsuc, negℤ, natAbs, _-ℤ_, +ℤ-idl}
-use lib.Signed.{leZ, nonNeg}
+use lib.Signed.{ltZ, leZ, nonNeg}
 use mir.Syntax.{w64}
 use mir.Val.{SFits, ofZ, toZ}
 use mir.Facts.{toZ-ofZ}
 use borrow.Author.Tests.{ne-eqb, le-leb, lt-leb}
+use Rattle.arith.specs.Order.{ltZ-true, ltZ-false, ≤ℤ-leZ, <ℤ-leZ}
 
 -- r is the first test's outcome and a its meaning; s and b the second's
 pub and-more : {r s a b : Bool} → r ≡ true → r ≡ a → s ≡ b → s ≡ a && b
@@ -47,6 +48,23 @@ too-low (pos (suc m)) (pos n) t e = absurd (true≢false e)
 too-low (pos zero) (negsuc n) t e = sym (lt-leb (suc n) 0 (omega arith))
 too-low (pos (suc m)) (negsuc n) t e = sym (leb·suc-suc n m)
 too-low (negsuc m) n t e = absurd t
+
+-- the same by tests of what is past an end
+module _ (m : ℕ) (number : ℤ) where
+  pub below : ltZ number (negℤ (pos m)) ≡ true → leb (natAbs number) m ≡ false
+  below e = sym (too-low (pos m) number tt low) ∙ low
+    where
+      low : leZ (negℤ (pos m)) number ≡ false
+      low = <ℤ-leZ (ltZ-true number (negℤ (pos m)) e)
+
+  pub not-below : ltZ number (negℤ (pos m)) ≡ false → leZ number (pos m) ≡ leb (natAbs number) m
+  not-below e = at-least (pos m) number tt (≤ℤ-leZ (ltZ-false number (negℤ (pos m)) e))
+
+  pub above : ltZ number (negℤ (pos m)) ≡ false → ltZ (pos m) number ≡ true → leb (natAbs number) m ≡ false
+  above e f = sym (not-below e) ∙ <ℤ-leZ (ltZ-true (pos m) number f)
+
+  pub inside : ltZ number (negℤ (pos m)) ≡ false → ltZ (pos m) number ≡ false → leb (natAbs number) m ≡ true
+  inside e f = sym (not-below e) ∙ ≤ℤ-leZ (ltZ-false (pos m) number f)
 
 -- ---- 0 or not
 

@@ -32,7 +32,7 @@ pub fn gravity_in_range(gx: i64, gy: i64) -> bool
     both_within(gx, gy, MOST_GRAVITY)
 }
 
-// Both numbers are −most to most. The checks of gravity, and of a node's velocity and momenta, call it.
+// Both numbers are −most to most. The checks of gravity and of a node's velocity call it.
 pub fn both_within(x: i64, y: i64, most: i64) -> bool
     requires { ⌜ T (nonNeg most) ⌝ }
     ensures { λ r. ⌜ r ≡ bothWithin (natAbs most) x y ⌝ }
