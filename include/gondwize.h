@@ -47,9 +47,9 @@
 #include <stddef.h>
 #include <stdint.h>
 
-#define GONDWIZE_VERSION "3.1.0"
-#define GONDWIZE_VERSION_MAJOR 3
-#define GONDWIZE_VERSION_MINOR 1
+#define GONDWIZE_VERSION "4.0.0"
+#define GONDWIZE_VERSION_MAJOR 4
+#define GONDWIZE_VERSION_MINOR 0
 #define GONDWIZE_VERSION_PATCH 0
 
 /* An answer that must be looked at, and an array of at least so many elements. */
@@ -225,7 +225,7 @@ GONDWIZE_MUST_USE uint64_t gondwize_totals(size_t nx, size_t ny,
                                            const uint8_t *records, size_t records_length,
                                            int64_t values[GONDWIZE_AT_LEAST(5)]);
 
-/* ---- Steps. */
+/* ---- Steps. Rounding is to nearest, a half to the even neighbour. */
 
 /*
  * The weights of one axis for a particle at offset q from its nearest node. `values`: those of the
@@ -274,7 +274,8 @@ GONDWIZE_MUST_USE uint64_t gondwize_update(size_t nx, size_t ny, int64_t gx, int
                                            int64_t *py, size_t py_length);
 
 /*
- * Grid-to-particle transfer from node velocities: the records then hold the moved particles.
+ * Grid-to-particle transfer from node velocities: the records then hold the moved particles, their
+ * velocities and B rounded.
  * Refused: 2; 1, also for the velocity buffers; the set; 12 for each node; then for each record 13,
  * 14, 15. No record moves if any is refused.
  */

@@ -370,7 +370,8 @@ static void nodes(void)
     node_answers(0, 1, 0, 0, 0, heavy);
     node_answers(0, 0, -1, 0, 0, heavy);
     for (int64_t sign = -1; sign <= 1; sign += 2) {
-        const int64_t edge = sign * 4 * fast, beyond = sign * 4 * (fast + 1), g = sign * pull;
+        /* The half above the limit, which is even, is rounded to it. */
+        const int64_t edge = sign * (4 * fast + 2), beyond = edge + sign, g = sign * pull;
         const enum gondwize_refusal quick = GONDWIZE_REFUSED_NODE_VELOCITY;
         node_answers(1, edge, 0, 0, 0, none);
         same("velocity ux", (uint64_t)px[GONDWIZE_MOST_GRID - 1], (uint64_t)(sign * fast));
@@ -482,7 +483,7 @@ static void velocity_left(size_t kind, size_t width, size_t drag, int64_t x, int
     enum { NX = 7, NY = 9 };
     for (size_t node = 0; node < NX * NY; node++) {
         mass[node] = 1;
-        px[node] = -4 * 300;
+        px[node] = -4 * 292;
         py[node] = 4 * 45;
     }
     same("left", gondwize_update(NX, NY, 44, -5, kind, width, drag, mass, NX * NY, px, NX * NY, py,
@@ -499,15 +500,19 @@ static void velocity_left(size_t kind, size_t width, size_t drag, int64_t x, int
     }
 }
 
-/* After gravity the velocities are -256 and 40, which loses 2.5 to a drag of 16, rounded to 3. */
+/*
+ * After gravity the velocities are -248 and 40. A drag of 16 takes 15.5 and 2.5 of them, rounded to 16
+ * and 2; one of 48 takes 46.5 and 7.5, rounded to 46 and 8.
+ */
 static void velocities_left(void)
 {
-    velocity_left(GONDWIZE_EDGE_OPEN, 0, 0, -256, 40);
+    velocity_left(GONDWIZE_EDGE_OPEN, 0, 0, -248, 40);
     for (size_t kind = GONDWIZE_EDGE_STICKY; kind <= GONDWIZE_EDGE_SLIP; kind++) {
         for (size_t width = GONDWIZE_LEAST_WIDTH; width <= GONDWIZE_MOST_WIDTH; width++) {
-            velocity_left(kind, width, 0, -256, 40);
-            velocity_left(kind, width, 16, -240, 37);
-            velocity_left(kind, width, 128, -128, 20);
+            velocity_left(kind, width, 0, -248, 40);
+            velocity_left(kind, width, 16, -232, 38);
+            velocity_left(kind, width, 48, -202, 32);
+            velocity_left(kind, width, 128, -124, 20);
             velocity_left(kind, width, GONDWIZE_MOST_DRAG, -1, 0);
         }
     }
@@ -586,7 +591,7 @@ static void answers(void)
     same("text of 22", (uint64_t)strcmp(gondwize_refusal_text(22), "unknown refusal"), 0);
     same("number of an answer", GONDWIZE_NUMBER(UINT64_C(7) << 32 | 70000), 7);
     same("place of an answer", GONDWIZE_PLACE(UINT64_C(7) << 32 | 70000), 70000);
-    same("version", (uint64_t)strcmp(GONDWIZE_VERSION, "3.1.0"), 0);
+    same("version", (uint64_t)strcmp(GONDWIZE_VERSION, "4.0.0"), 0);
     same("length of a file", GONDWIZE_FILE_LENGTH(3), 53);
     same("length of the longest file", GONDWIZE_FILE_LENGTH(GONDWIZE_MOST_RECORDS), GONDWIZE_MOST_FILE_LENGTH);
     same("length of the longest set", GONDWIZE_MOST_SET_LENGTH, 57344);

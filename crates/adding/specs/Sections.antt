@@ -17,7 +17,7 @@ use Rattle.arith.specs.Sums.{Each}
 use Rattle.refusal.specs.Refused.{Answer, result, andThen}
 use Rattle.particle.specs.declared.Particle.{Particle}
 use Rattle.particle.specs.Layout.{recordLength}
-use Rattle.particles.specs.Set.{setAnswer, recordsOf}
+use Rattle.particles.specs.Set.{Bytes, setAnswer, recordsOf}
 use Rattle.apic.specs.Step.{Grids, gridsOf}
 use Rattle.settings.specs.declared.Settings.{Settings}
 use Rattle.entry.specs.declared.Buffers.the-variants.{Three}
@@ -78,10 +78,6 @@ joined (xs ∷ xss) = xs ++ joined xss
 pub record PartsOf (ps : List Particle) (parts : List (List Particle)) : Type 0 where
   pub in-order : Each (λ part. InOrder part ps) parts
   pub together : Rearranged (joined parts) ps
-
--- numbers that are bytes
-abbrev pub Bytes : List ℕ → Type 0
-Bytes records = (i : ℕ) → getD records i 0 < 256
 
 -- the particles' records are the set's; each part is itself an accepted set; and no call is refused
 pub record Sections (nx ny : ℕ) (records : List ℕ) (ps : List Particle) (parts : List (List Particle)) : Type 0 where

@@ -4,7 +4,8 @@
 --     forced-by-gravity   the velocity after gravity is, with gravity for f
 --     forced-by-settings  what the update leaves is, with gravity and the node's change by drag and rim for f
 --     node-mass-nonneg    a node's mass is not negative
---     massless            a node without mass has no momentum
+--     massless-shares     to a node without mass no particle gives any
+--     massless            and so it has no momentum
 --     update-node         |2·(D/256·M·(unforced velocity) − momentum)| ≤ D/256·M at every node
 --     update-linear       |2·(Σ M·(u − f) − 2^34·momentum)| ≤ Σ M, on each axis: D has cancelled
 --     update-angular      |2·(Σ M·(X·(uy − fy) − Y·(ux − fx)) − 2^34·(angular momentum))| ≤ Σ M·X + Σ M·Y
@@ -85,12 +86,14 @@ module _ (w : ℕ → ℕ → ℤ) (D : ℕ) (nx ny : ℕ) (ps : List Particle) 
   unfolding nodeMass
   node-mass-nonneg i j = sum-nonneg _ ps (shares-nonneg i j)
 
+  pub massless-shares : (i j : ℕ) → nodeMass w ps i j ≡ pos 0 → Each (λ p. pos (p .mass) *ℤ weight w p i j ≡ pos 0) ps
+  unfolding nodeMass
+  massless-shares i j e = all-zero _ ps (shares-nonneg i j) e
+
   pub massless : (a : Axis) (i j : ℕ) → nodeMass w ps i j ≡ pos 0 → nodeMomentum w D a ps i j ≡ pos 0
-  unfolding nodeMass nodeMomentum
+  unfolding nodeMomentum
   massless a i j e =
-      sum-zero _ ps
-      (each-map _ _ (λ p z. ap (λ s. s *ℤ carried D a p i j) z ∙ zero-*ℤ (carried D a p i j)) ps
-      (all-zero _ ps (shares-nonneg i j) e))
+      sum-zero _ ps (each-map _ _ (λ p z. ap (λ s. s *ℤ carried D a p i j) z ∙ zero-*ℤ (carried D a p i j)) ps (massless-shares i j e))
 
 -- ---- one node
 

@@ -6,15 +6,18 @@
 --     read-result                    what a call answers
 --     fits₂, result₂                 an operation on two numbers that are as meant: its result is as meant where it fits
 --     widened, narrowed              through a wider type and back; with `-fits`, that the cast is allowed
+--     lowest-bit                     a number's parity, by a mask
 -- In one line: `read w64 h tt : toZ w64 (ofZ w64 z) ≡ z`, where `h : Bound z 4095`: `tt` compares two numerals.
 -- Assumes nothing.
 use mathlib.Core.Path.{_≡_, sym, ap, ap₂, subst, _∙_}
-use Prim.Native.Nat.{ℕ, _≤_, _<_, _^_}
+use Prim.Native.Nat.{ℕ, suc, _-_, _%_, _≤_, _<_, _^_}
 use native.Mathlib.Nat.{lt-of-le-of-lt}
+use native.Mathlib.Omega.{arith}
 use lib.Dec.{T, leb, ltb, ltb→lt}
-use lib.IntN.{ℤ, pos, natAbs}
+use lib.IntN.{ℤ, pos, negsuc, natAbs}
 use lib.Signed.{mag}
-use mir.Syntax.{Width}
+use lib.Bits.{bitAnd, and-mask}
+use mir.Syntax.{Width, w64}
 use mir.Val.{SFits, toZ, ofZ, hbits}
 use mir.Facts.{toZ-ofZ, toZ-pos, sfits-widen}
 use Rattle.arith.specs.Size.{Bound, bound-equal, size-given, fits}
@@ -77,3 +80,9 @@ module _ (v w : Width) (t : T (leb (hbits v) (hbits w))) (z : ℤ) (h : mag z < 
 
   pub narrowed : toZ v (ofZ v (toZ w (ofZ w z))) ≡ z
   narrowed = same-read (toZ-ofZ wide) narrow
+
+-- ---- a mask
+
+pub lowest-bit : (z : ℤ) → SFits w64 z → toZ w64 (bitAnd (ofZ w64 z) 1) ≡ pos (natAbs z % 2)
+lowest-bit (pos a) f = ap (toZ w64) (and-mask a 1) ∙ toZ-pos w64 (omega arith)
+lowest-bit (negsuc a) f = ap (toZ w64) (and-mask (2 ^ 64 - suc a) 1) ∙ toZ-pos w64 {n = (2 ^ 64 - suc a) % 2} (omega arith) ∙ ap pos (omega (arith, f .sfits))

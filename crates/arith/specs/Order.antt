@@ -1,7 +1,7 @@
 -- The order of the integers of lib.IntN: linear facts in one line, the laws by name, and allowances.
 --     linear                        a linear fact from others, in one line (below)
 --     ≤ℤ-trans, ≤ℤ-antisym, ≤ℤ-of-eq, ≤ℤ-of-<ℤ, ≤ℤ-total                   the order
---     leZ-true, leZ-false, ltZ-true, ltZ-false      what a test's flag tells; ≤ℤ-leZ, <ℤ-leZ     the flag from the fact
+--     leZ-true, leZ-false, ltZ-true, ltZ-false      what a test's flag tells; is-true, ≤ℤ-leZ, <ℤ-leZ     the flag from the fact
 --     pos-mono, pos-cancel, pos-nonneg, pos-positive, nonneg-pos     the natural numbers among the integers
 --     +ℤ-mono, difference-nonneg                    sums and differences
 --     *ℤ-nonneg, *ℤ-mono-left, *ℤ-cancel-left       products
@@ -304,7 +304,7 @@ ltZ-true a b e = ltZ-yes (subst T (sym e) tt)
 pub ltZ-false : (a b : ℤ) → ltZ a b ≡ false → b ≤ℤ a
 ltZ-false a b e = ⊎-elim (λ h. h) (λ h. absurd (subst T e (h .lt))) (≤ℤ-total b a)
 
-is-true : (t : Bool) → T t → t ≡ true
+pub is-true : (t : Bool) → T t → t ≡ true
 is-true true h = refl
 is-true false h = absurd h
 

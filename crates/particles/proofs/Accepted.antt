@@ -5,7 +5,7 @@
 --     limits-accepted      the records of particles that break no limit are accepted, as those particles
 -- Assumes nothing.
 use mathlib.Core.Path.{_≡_, refl, sym, ap, ap₂, _∙_, subst}
-use mathlib.Core.Bool.{Bool, true, false}
+use mathlib.Core.Bool.{true}
 use mathlib.Core.List.{List, [], _∷_, _++_, append-assoc}
 use Prim.Native.Nat.{ℕ, zero, suc, _+_, _*_, _-_, _/_, _%_, _≤_, _<_, zero-le}
 use native.Mathlib.Nat.{zero-add}
@@ -17,6 +17,7 @@ use mir.Facts.{and-yes}
 use borrow.Author.Tests.{le-leb, le-ltb, eq-eqb}
 use Rattle.refusal.specs.Refused.{result, andThen}
 use Rattle.refusal.proofs.Answers.{same-result}
+use Rattle.arith.specs.Order.{is-true}
 use Rattle.arith.specs.Sums.{Each}
 use Rattle.spline.specs.Spline.{onAxis}
 use Rattle.limits.specs.Limits.{leastSide, mostSide, mostPosition, mostRecords, mostTotalMass}
@@ -133,10 +134,6 @@ records-length (p ∷ ps) = length-append (recordOf p) (recordsOf ps) ∙ count 
   where
     count : (a b n : ℕ) → a ≡ recordLength → b ≡ recordLength * n → a + b ≡ recordLength * suc n
     count a b n h g = omega arith
-
-is-true : (b : Bool) → T b → b ≡ true
-is-true true t = refl
-is-true false t = absurd t
 
 module _ (nx ny : ℕ) where
   particle-passes : (k least mass : ℕ) (p : Particle) → ParticleLimits nx ny p → least ≤ p .identifier → mass + p .mass ≤ mostTotalMass → checkedParticle nx ny k least mass p ≡ result p

@@ -2,9 +2,9 @@
 -- A set's records lie one after the other from a byte `start` on. Assumes nothing.
 use mathlib.Core.Bool.{Bool, not, _&&_}
 use mathlib.Core.List.{List, [], _∷_, _++_, map}
-use Prim.Native.Nat.{ℕ, zero, suc, _+_, _*_, _/_, _%_}
+use Prim.Native.Nat.{ℕ, zero, suc, _+_, _*_, _/_, _%_, _<_}
 use lib.Dec.{leb, ltb, eqb}
-use lib.ListN.{length, take, drop}
+use lib.ListN.{length, getD, take, drop}
 use Rattle.refusal.specs.Refused.{Answer, result, refusedBy, refuseIf, andThen}
 use Rattle.limits.specs.Limits.{leastSide, mostSide, mostRecords, mostTotalMass}
 use Rattle.arith.specs.Sums.{upTo}
@@ -48,6 +48,10 @@ setOf nx ny start bytes count = setFrom nx ny start bytes count 0 0 0
 unfoldable pub recordsOf : List Particle → List ℕ
 recordsOf [] = []
 recordsOf (p ∷ ps) = recordOf p ++ recordsOf ps
+
+-- numbers that are bytes
+abbrev pub Bytes : List ℕ → Type 0
+Bytes records = (i : ℕ) → getD records i 0 < 256
 
 -- ---- the operation
 

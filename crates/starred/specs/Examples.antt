@@ -1,7 +1,7 @@
--- Document 01's starred examples, one row each: what the operations' definitions answer, and what they must. A row is an answer
--- with numbers: the three weights of Weights; the number of records of Check a set; of Step the particles in the records that
--- it leaves, their identifier and nine numbers each, or the node velocities that it leaves on the x axis.
--- The grid has 4 by 5 nodes, and what the example leaves open differs on the two axes. Assumes nothing.
+-- The starred examples of documents 01 and 02, one row each: what the operations' definitions answer, and what they must. A row is
+-- an answer with numbers: the three weights of Weights; the number of records of Check a set; of Step the particles in the records
+-- that it leaves, their identifier and nine numbers each, or the node velocities that it leaves on the x axis. The grid has 4 by 5
+-- nodes, and what the example leaves open differs on the two axes. Assumes nothing.
 use mathlib.Core.Path.{_≡_}
 use mathlib.Core.List.{List, [], _∷_, _++_, map}
 use Prim.Native.Nat.{ℕ}
@@ -85,10 +85,14 @@ examples =
     ∷ (checking 31, refused 7 0)
     ∷ (checking 159, result (pos 1 ∷ []))
     ∷ (checking 160, refused 7 0)
-    -- gx 127 gives vx 0, 128 gives 1, −128 gives −1; gy is −2 velocity units
+    -- gx 127 gives vx 0; at a half the even neighbour: 128 and −128 give 0, 384 and −384 give 2 and −2, 640 gives 2; gy is −2
+    -- velocity units
     ∷ (stepping (pos 127) (negℤ (pos 512)) (lone (pos 0)), result (listed (loneAt 64 62 (pos 0) (negℤ (pos 2)))))
-    ∷ (stepping (pos 128) (negℤ (pos 512)) (lone (pos 0)), result (listed (loneAt 65 62 (pos 1) (negℤ (pos 2)))))
-    ∷ (stepping (negℤ (pos 128)) (negℤ (pos 512)) (lone (pos 0)), result (listed (loneAt 63 62 (negℤ (pos 1)) (negℤ (pos 2)))))
+    ∷ (stepping (pos 128) (negℤ (pos 512)) (lone (pos 0)), result (listed (loneAt 64 62 (pos 0) (negℤ (pos 2)))))
+    ∷ (stepping (negℤ (pos 128)) (negℤ (pos 512)) (lone (pos 0)), result (listed (loneAt 64 62 (pos 0) (negℤ (pos 2)))))
+    ∷ (stepping (pos 384) (negℤ (pos 512)) (lone (pos 0)), result (listed (loneAt 66 62 (pos 2) (negℤ (pos 2)))))
+    ∷ (stepping (negℤ (pos 384)) (negℤ (pos 512)) (lone (pos 0)), result (listed (loneAt 62 62 (negℤ (pos 2)) (negℤ (pos 2)))))
+    ∷ (stepping (pos 640) (negℤ (pos 512)) (lone (pos 0)), result (listed (loneAt 66 62 (pos 2) (negℤ (pos 2)))))
     -- Bxx = 1024 and no gravity: v stays 0 and B is unchanged
     ∷ (stepping (pos 0) (pos 0) (lone (pos 1024)), result (listed (lone (pos 1024))))
     -- vx 1 and 0: node velocity 85, both vx become 0

@@ -1,4 +1,4 @@
--- The definitions compute. Twenty nodes of mass 1 with momenta 2 and −2, halves of a unit, go to 1 and −1; a node without
+-- The definitions compute. Twenty nodes of mass 1 with momenta 2 and −6, 1/2 and −3/2 of a unit, go to 0 and −2; a node without
 -- mass stays at 0 under gravity; a refused grid stays as it was; drag rounds; each edge holds its nodes. Assumes nothing.
 use mathlib.Core.Path.{_≡_, refl}
 use mathlib.Core.List.{List, [], _∷_, _++_}
@@ -19,7 +19,7 @@ use Rattle.update.specs.Update.{checkNode, checkNodes, velocities, updat
 abbrev plain : ℤ → ℤ → Settings
 plain gx gy = record { nx = 4; ny = 5; gx = gx; gy = gy; edge = Open; drag = 0 }
 
-halves : (updateAnswer (plain (pos 0) (pos 0)) (replicate 20 1) (replicate 20 (pos 2)) (replicate 20 (negsuc 1)) ≡ done) × ((velocities D (plain (pos 0) (pos 0)) alongX (replicate 20 1) (replicate 20 (pos 2)) ≡ replicate 20 (pos 1)) × (velocities D (plain (pos 0) (pos 0)) alongY (replicate 20 1) (replicate 20 (negsuc 1)) ≡ replicate 20 (negsuc 0)))
+halves : (updateAnswer (plain (pos 0) (pos 0)) (replicate 20 1) (replicate 20 (pos 2)) (replicate 20 (negsuc 5)) ≡ done) × ((velocities D (plain (pos 0) (pos 0)) alongX (replicate 20 1) (replicate 20 (pos 2)) ≡ replicate 20 (pos 0)) × (velocities D (plain (pos 0) (pos 0)) alongY (replicate 20 1) (replicate 20 (negsuc 5)) ≡ replicate 20 (negsuc 1)))
 unfolding nearest nodeVelocity afterDrag updatedVelocity checkNode checkNodes velocities checkedForces beginAnswer updateAnswer
 halves = (refl, (refl, refl))
 
@@ -37,8 +37,8 @@ still-there = record { answer = refl; left-is = refl }
 
 -- ---- edges and drag
 
--- a velocity of 3, and of −3, loses 3·128/256 = 3/2, rounded to 2; of 1 it loses a half, rounded to 1
-slowed : (afterDrag rounded 128 (pos 3) ≡ pos 1) × ((afterDrag rounded 128 (negsuc 2) ≡ negsuc 0) × (afterDrag rounded 128 (pos 1) ≡ pos 0))
+-- a velocity of 3, and of −3, loses 3·128/256 = 3/2, rounded to 2; of 1 it loses a half, rounded to 0
+slowed : (afterDrag rounded 128 (pos 3) ≡ pos 1) × ((afterDrag rounded 128 (negsuc 2) ≡ negsuc 0) × (afterDrag rounded 128 (pos 1) ≡ pos 1))
 unfolding nearest afterDrag
 slowed = (refl, (refl, refl))
 

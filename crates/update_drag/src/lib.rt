@@ -14,7 +14,7 @@ fn slowed(drag: usize, u: i64) -> i64
     ensures { λ r. ⌜ r ≡ afterDrag rounded drag u ⌝ }
 {
     let part = u * (drag as i64);
-    u - ((part + 128 + (part >> 63)) >> 8)
+    u - ((part + 127 + ((part >> 8) & 1)) >> 8)
 }
 
 // The velocities of all nodes on one axis. Crate update_grid calls it.

@@ -1,8 +1,8 @@
--- Rounding of a momentum by its size, and the numbers on the way as the machine holds them. Assumes nothing.
+-- The divisor and the size of a momentum, and the numbers on the way as the machine holds them. Assumes nothing.
 use mathlib.Core.Path.{_≡_, refl, sym, ap, _∙_, subst}
 use mathlib.Core.Bool.{true, false, true≢false}
 use mathlib.Core.List.{[]}
-use Prim.Native.Nat.{ℕ, suc, _+_, _/_, _^_, _≤_, _<_}
+use Prim.Native.Nat.{ℕ, _^_, _≤_, _<_}
 use native.Mathlib.Omega.{arith}
 use lib.Dec.{T}
 use lib.IntN.{ℤ, pos, negsuc, negℤ, natAbs, _-ℤ_, +ℤ-idl}
@@ -14,15 +14,15 @@ use borrow.Author.Tests.{le-ltb}
 use Rattle.arith.specs.Order.{linear, reading, nothing}
 use Rattle.arith.specs.Size.{natAbs-neg, sizes, fits}
 use Rattle.arith.specs.Machine.{same-fits, same-read}
-use Rattle.arith.specs.Rounding.{rounded, nearest-size, nearest-size-neg}
+use Rattle.update_node.specs.Internal.{Divisor}
 
-module _ (d : ℕ) (positive : 0 < d) where
-  pub rounds : (z : ℤ) → ltZ z (pos 0) ≡ false → rounded z d ≡ pos ((natAbs z + d / 2) / d)
-  rounds (pos a) e = nearest-size a d positive
-  rounds (negsuc a) e = absurd (true≢false e)
+pub positive : {d : ℕ} → Divisor d → 0 < d
+positive h = omega (arith, h .least)
 
-  pub rounds-negative : (a : ℕ) → rounded (negsuc a) d ≡ negℤ (pos ((suc a + d / 2) / d))
-  rounds-negative a = nearest-size-neg (suc a) d positive
+-- a number by its size
+pub by-size : (z : ℤ) → ltZ z (pos 0) ≡ false → pos (natAbs z) ≡ z
+by-size (pos a) e = refl
+by-size (negsuc a) e = absurd (true≢false e)
 
 nonneg : (z : ℤ) → ltZ z (pos 0) ≡ false → T (nonNeg z)
 nonneg (pos a) e = tt

@@ -1,7 +1,7 @@
 // One node of Update: its limits, and its velocity on one axis.
 ghost use mathlib.Core.Path.{_≡_};
-ghost use Prim.Native.Nat.{_+_, _/_, _≤_, _^_};
-ghost use lib.IntN.{natAbs};
+ghost use Prim.Native.Nat.{_≤_, _^_};
+ghost use lib.IntN.{pos, natAbs};
 ghost use Rattle.arith.specs.Rounding.{rounded};
 ghost use Rattle.limits.specs.Limits.{mostNodeMass, mostGravity};
 ghost use Rattle.spline.specs.Kernel.{Spread};
@@ -18,15 +18,20 @@ use update::Updated;
 // least D and so for every one.
 const CALM_MOMENTUM: u64 = 507904;
 
-// size/divisor to nearest, halves up. `rounded` calls it.
+// size/divisor to nearest, a half to the even neighbour. `rounded` calls it.
 fn rounded_size(size: u64, divisor: u64) -> u64
     requires { ⌜ (size ≤ 2 ^ 63) × Divisor divisor ⌝ }
-    ensures { λ r. ⌜ (r ≡ (size + divisor / 2) / divisor) × (r ≤ 2 ^ 62) ⌝ }
+    ensures { λ r. ⌜ (pos r ≡ rounded (pos size) divisor) × (r ≤ 2 ^ 62) ⌝ }
 {
-    (size + divisor / 2) / divisor
+    let quotient = size / divisor;
+    let rest = size % divisor;
+    if rest + quotient % 2 > divisor - rest {
+        return quotient + 1;
+    }
+    quotient
 }
 
-// momentum/divisor to nearest, halves away from zero. `velocity` calls it.
+// momentum/divisor to nearest, a half to the even neighbour. `velocity` calls it.
 fn rounded(momentum: i64, divisor: u64) -> i64
     requires { ⌜ Divisor divisor ⌝ }
     ensures { λ r. ⌜ (r ≡ rounded momentum divisor) × (natAbs r ≤ 2 ^ 62) ⌝ }

@@ -78,6 +78,7 @@ fn settings(numbers: &mut Generator, size: Size) -> Settings {
     let mut gravity = || match numbers.between(0, 29) {
         0 => near(numbers, (-4096, 4096), I64),
         1 => numbers.one_of(&[-4096, 4096]),
+        2 => 128 * numbers.one_of(&[-5, -3, -1, 1, 3, 5]),
         _ => numbers.between(-strongest, strongest),
     };
     let (gx, gy) = (gravity(), gravity());
@@ -346,7 +347,8 @@ pub fn adding_scatter(numbers: &mut Generator) -> Call {
     (Operation::AddingScatter(size), buffers)
 }
 
-/// Mass and momentum of a node, mostly within the limits, with a velocity about an end of its range.
+/// Mass and momentum of a node, mostly within the limits, at times with a velocity about an end of its
+/// range, and often with one that is a half or next to it.
 fn node(numbers: &mut Generator, settings: Settings) -> (u64, i64, i64) {
     let most = 1 << 43;
     let mass = match numbers.between(0, 9) {
@@ -356,13 +358,17 @@ fn node(numbers: &mut Generator, settings: Settings) -> (u64, i64, i64) {
         _ => numbers.between(1, most),
     };
     let mut momentum = |gravity: i128| {
-        let end = numbers.one_of(&[-1, 1]) * 131_072 - gravity.clamp(-4096, 4096);
-        let momentum = match numbers.between(0, 9) {
-            0 => 4 * mass * end + numbers.between(-2, 2) * mass,
-            1 => 4 * mass * end + numbers.one_of(&[-1, 1]) * (2 * mass - 1),
-            _ => 4 * mass * numbers.between(-100_000, 100_000) + numbers.between(-1, 1) * mass,
+        let velocity = if numbers.once_in(5) {
+            numbers.one_of(&[-1, 1]) * 131_072 - gravity.clamp(-4096, 4096)
+        } else {
+            numbers.between(-100_000, 100_000)
         };
-        momentum.clamp(I64.0, I64.1) as i64
+        let rest = match numbers.between(0, 2) {
+            0 => numbers.between(-2 * mass, 2 * mass),
+            1 => numbers.between(-2, 2) * mass,
+            _ => numbers.one_of(&[-2, 2]) * mass + numbers.between(-1, 1).clamp(-mass, mass),
+        };
+        (4 * mass * velocity + rest).clamp(I64.0, I64.1) as i64
     };
     let (x, y) = (momentum(settings.gx), momentum(settings.gy));
     (mass as u64, x, y)
@@ -378,7 +384,9 @@ pub fn update(numbers: &mut Generator) -> Call {
         if count > 0 && numbers.once_in(5) {
             let k = place(numbers, count);
             grid.mass[k] = numbers.one_of(&[0, (1 << 43) + 1, u64::MAX.into()]) as u64;
-            grid.x[k] = numbers.one_of(&[0, 1, I64.0, I64.1]) as i64;
+            for axis in [&mut grid.x, &mut grid.y] {
+                axis[k] = numbers.one_of(&[0, 1, I64.0, I64.1]) as i64;
+            }
         }
     }
     let buffers = Buffers {
@@ -401,15 +409,35 @@ fn velocities(numbers: &mut Generator, count: usize) -> Vec<i64> {
     list
 }
 
+/// Node velocities that are gathered to halves: to entries of B where they rise from column to column
+/// and from row to row, and to velocities where they do not.
+fn halves(numbers: &mut Generator, size: Size, count: usize) -> Vec<i64> {
+    let mut rise = || 8 * numbers.one_of(&[0, 0, 0, -3, -1, 1, 5]);
+    let (a, b) = (rise(), rise());
+    let c = 128 * numbers.between(-9, 9);
+    let velocity = |node| {
+        let (i, j) = ground(size).column_and_row(node);
+        (a * i + b * j + c) as i64
+    };
+    (0..count).map(velocity).collect()
+}
+
 /// Gather.
 pub fn gather(numbers: &mut Generator) -> Call {
     let size = size(numbers);
     let bytes = records(numbers, size);
-    let (x, y) = (nodes(numbers, size), nodes(numbers, size));
+    let mut axis = || {
+        let count = nodes(numbers, size);
+        if numbers.once_in(4) {
+            halves(numbers, size, count)
+        } else {
+            velocities(numbers, count)
+        }
+    };
     let grid = Grid {
         mass: Vec::new(),
-        x: velocities(numbers, x),
-        y: velocities(numbers, y),
+        x: axis(),
+        y: axis(),
     };
     (Operation::Gather(size), Buffers { bytes, grid })
 }

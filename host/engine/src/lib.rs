@@ -404,18 +404,19 @@ pub fn adding_scatter(size: Size, records: &[u8], grid: &mut GridBuffers) -> Res
 
 /// Node update: velocities in 256ths take the place of momenta; masses stay. Momentum by mass, rounded,
 /// gains gravity; the velocity u then loses u·drag/256, rounded; then nodes in the edge's band rest, on
-/// both axes or on one. Refusal 12 looks at the velocity after gravity and before drag.
+/// both axes or on one. Refusal 12 looks at the velocity after gravity and before drag. Rounding, here
+/// and in [`gather`], is to nearest, a half to the even neighbour.
 ///
 /// ```
 /// use engine::{update, Edge, GridBuffers, Settings, Size};
 ///
 /// let settings =
-///     Settings { size: Size { nx: 5, ny: 4 }, gx: 20, gy: -3, edge: Edge::Slip(1), drag: 128 };
+///     Settings { size: Size { nx: 5, ny: 4 }, gx: 20, gy: -5, edge: Edge::Slip(1), drag: 128 };
 /// let (mut mass, mut x, mut y) = ([1; 20], [400; 20], [0; 20]);
 /// update(settings, &mut GridBuffers { mass: &mut mass, x: &mut x, y: &mut y })?;
-/// // 400 by 4 and gravity are 120 on the x axis, and half of it is lost; a half rounds away from zero.
+/// // 400 by 4 and gravity are 120 on the x axis, of which half is lost; of −5 it is −2.5, rounded −2.
 /// assert_eq!(x[..10], [0, 60, 60, 60, 0, 0, 60, 60, 60, 0]);
-/// assert_eq!(y[..10], [0, 0, 0, 0, 0, -1, -1, -1, -1, -1]);
+/// assert_eq!(y[..10], [0, 0, 0, 0, 0, -3, -3, -3, -3, -3]);
 /// # Ok::<(), engine::Refusal>(())
 /// ```
 ///
@@ -426,7 +427,8 @@ pub fn update(settings: Settings, grid: &mut GridBuffers) -> Result<(), Refusal>
     Refusal::check(PROVED.update(settings, grid))
 }
 
-/// Grid-to-particle transfer from node velocities: the records then hold the moved particles.
+/// Grid-to-particle transfer from node velocities: the records then hold the moved particles, their
+/// velocities and B rounded.
 ///
 /// # Errors
 ///
@@ -448,7 +450,7 @@ pub fn gather(size: Size, records: &mut [u8], x: &[i64], y: &[i64]) -> Result<()
 /// let mut same = records;
 ///
 /// let size = Size { nx: 4, ny: 5 };
-/// let settings = Settings { size, gx: 128, gy: 0, edge: Edge::Open, drag: 0 };
+/// let settings = Settings { size, gx: 384, gy: -128, edge: Edge::Open, drag: 0 };
 /// let (mut mass, mut x, mut y) = ([0; 20], [0; 20], [0; 20]);
 /// let mut grid = GridBuffers { mass: &mut mass, x: &mut x, y: &mut y };
 /// step(settings, &mut records, &mut grid)?;
@@ -457,7 +459,9 @@ pub fn gather(size: Size, records: &mut [u8], x: &[i64], y: &[i64]) -> Result<()
 /// update(settings, &mut grid)?;
 /// gather(size, &mut same, grid.x, grid.y)?;
 /// assert_eq!(records, same);
-/// assert_eq!(engine::read_record(&records)?.vx, 1);
+/// // 384 and −128 of 256ths are 3/2 and −1/2.
+/// let particle = engine::read_record(&records)?;
+/// assert_eq!((particle.vx, particle.vy), (2, 0));
 /// # Ok::<(), engine::Refusal>(())
 /// ```
 ///

@@ -1,4 +1,4 @@
-//! Document 01 with document 02's Papers 1 to 4 in Rust, written for speed: what the proved engine is
+//! Document 01 with document 02's Papers 1 to 5 in Rust, written for speed: what the proved engine is
 //! measured against.
 //!
 //! The functions take what those of `include/gondwize.h` take, in the same order, a slice for each

@@ -66,7 +66,8 @@ pub fn scatter_all(
     add_all(particles, nx, table, mass, px, py);
 }
 
-/// Velocity and B on one axis, from the nine nodes of which the first is at `at`.
+/// Velocity and B on one axis, to nearest, at a half the even neighbour, from the nine nodes of which
+/// the first is at `at`.
 #[inline(always)]
 fn gather_axis(u: &[i64], nx: usize, at: usize, x: Place, y: Place) -> [i64; 3] {
     let row = |at: usize| {

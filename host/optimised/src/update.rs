@@ -10,14 +10,16 @@ use crate::{answer, refused};
 /// The largest number of nodes.
 pub const MOST_NODES: usize = 48 * 48;
 
-/// momentum/(4·mass) to nearest, halves away from zero, plus gravity; 0 without mass. For a mass of
-/// at most 2^43.
+/// momentum/(4·mass) to nearest, at a half the even neighbour, plus gravity; 0 without mass. For a
+/// mass of at most 2^43.
 #[inline(always)]
 fn velocity(gravity: i64, mass: u64, momentum: i64) -> i64 {
     if mass == 0 {
         return 0;
     }
-    let size = (momentum.unsigned_abs() + 2 * mass) / (4 * mass);
+    let (size, divisor) = (momentum.unsigned_abs(), 4 * mass);
+    let (quotient, rest) = (size / divisor, size % divisor);
+    let size = quotient + u64::from(rest + (quotient & 1) > divisor - rest);
     let rounded = if momentum < 0 {
         -(size as i64)
     } else {
@@ -26,7 +28,8 @@ fn velocity(gravity: i64, mass: u64, momentum: i64) -> i64 {
     rounded + gravity
 }
 
-/// What drag leaves of a velocity within ±131,072.
+/// What drag leaves of a velocity within ±131,072: it loses u·drag/256, to nearest, at a half the even
+/// neighbour.
 #[inline(always)]
 fn slowed(drag: usize, u: i64) -> i64 {
     u - rounded::<8>(u * drag as i64)
@@ -179,4 +182,36 @@ pub fn update(
 ) -> u64 {
     let settings = Settings::new(nx, ny, gx, gy, kind, width, drag);
     answer(updated(&settings, mass, px, py))
+}
+
+#[cfg(test)]
+mod tests {
+    use super::{slowed, velocity};
+    use crate::rounding::tests::halves;
+    use reference::transfer::{after_drag, node_velocity};
+
+    /// Momenta that are halves, and beside them, at small masses and large ones.
+    #[test]
+    fn velocities_as_the_reference() {
+        for mass in [1, 2, 3, 7, (1 << 42) + 1, (1 << 43) - 1, 1 << 43] {
+            for halves in halves() {
+                for beside in -2..=2 {
+                    let momentum = 2 * mass * halves + beside;
+                    let expected = node_velocity(mass as u64, momentum, -3);
+                    let found = velocity(-3, mass as u64, momentum);
+                    assert_eq!(i128::from(found), expected, "{momentum} by {mass}");
+                }
+            }
+        }
+    }
+
+    #[test]
+    fn drags_as_the_reference() {
+        for drag in 0..=255 {
+            for u in (-1_300..=1_300).chain([-131_072, -131_071, 131_071, 131_072]) {
+                let expected = after_drag(u.into(), drag as i128);
+                assert_eq!(i128::from(slowed(drag, u)), expected, "{u} under {drag}");
+            }
+        }
+    }
 }

@@ -1,6 +1,6 @@
 //! Two-dimensional APIC with the quadratic B-spline in whole numbers: the whole of document 01 with
-//! document 02's Papers 1, 3 and 4, written from the documents, as literal sums over all particles and
-//! all nodes.
+//! document 02's Papers 1, 3, 4 and 5, written from the documents, as literal sums over all particles
+//! and all nodes.
 //!
 //! | module | operations |
 //! | --- | --- |

@@ -1,5 +1,5 @@
 //! Scatter, update and gather: "The step" of document 01, by source document 003's transfers (3)
-//! and (4), with document 02's drag and rim, and its adding scatter.
+//! and (4), with document 02's drag, rim and rounding, and its adding scatter.
 
 use std::ops::Range;
 

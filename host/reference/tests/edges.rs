@@ -99,30 +99,36 @@ fn bands_at_every_size() {
     }
 }
 
-/// u·drag/256 is rounded to nearest, halves away from zero, before it is taken away.
+/// u·drag/256 is rounded to nearest, at a half to the even neighbour, before it is taken off.
 #[test]
 fn drag_by_hand() {
     let cases = [
         (0, 131_072, 131_072),
         (1, 127, 127),
-        (1, 128, 127),
+        (1, 128, 128),
         (1, 129, 128),
+        (1, 383, 382),
         (1, 384, 382),
+        (1, 385, 383),
+        (1, 640, 638),
+        (1, 641, 638),
         (64, 1, 1),
-        (64, 2, 1),
+        (64, 2, 2),
         (64, 5, 4),
         (64, 6, 4),
-        (128, 1, 0),
+        (64, 10, 8),
+        (128, 1, 1),
         (128, 2, 1),
         (128, 3, 1),
-        (128, 5, 2),
+        (128, 5, 3),
+        (128, 7, 3),
         (192, 2, 0),
-        (192, 6, 1),
+        (192, 6, 2),
         (255, 1, 0),
         (255, 127, 0),
         (255, 128, 0),
         (255, 129, 1),
-        (255, 384, 1),
+        (255, 384, 2),
         (255, 385, 2),
         (255, 131_072, 512),
     ];
@@ -251,12 +257,12 @@ fn rims_hold_a_particle() {
     assert!(sliding.vx == 0 && sliding.x > 400);
 }
 
-/// Drag slows a lone particle until a step's loss is below a half, which the gather rounds away: at drag
-/// 40 it keeps 3, and from 129 on nothing. One at rest stays where it is.
+/// Drag slows a lone particle until a step's loss is below a half, which the gather drops: at drag 40 it
+/// keeps 3. From 128 on it keeps nothing, since a half goes to 0. One at rest stays where it is.
 #[test]
 fn drag_slows_a_particle() {
     let moving = Particle::at_rest(8, 40, 300, 600).moving(21, -5);
-    for (drag, left) in [(40, 3), (128, 1), (129, 0), (255, 0)] {
+    for (drag, left) in [(40, 3), (127, 1), (128, 0), (129, 0), (255, 0)] {
         let settings = Settings::new(Size::new(20, 14), 0, 0).with_drag(drag);
         let (completed, number, after) = ran(settings, 20, moving);
         assert_eq!((completed, number), (20, 0), "{drag}");

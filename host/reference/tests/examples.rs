@@ -1,4 +1,5 @@
-//! Document 01's examples, starred and not; the printed one with document 02's header and motion.
+//! Document 01's examples, starred and not, with document 02's rounding; the printed one with its header
+//! and motion.
 
 use reference::particle_set::{pack_records, particles};
 use reference::{check_set, program, scatter, step, totals, update, weights};
@@ -41,7 +42,18 @@ fn places_on_four_nodes() {
 
 #[test]
 fn lone_particle_under_gravity() {
-    for (gx, vx) in [(127, 0), (128, 1), (-128, -1), (-127, 0)] {
+    for (gx, vx) in [
+        (127, 0),
+        (128, 0),
+        (129, 1),
+        (384, 2),
+        (640, 2),
+        (-127, 0),
+        (-128, 0),
+        (-129, -1),
+        (-384, -2),
+        (-640, -2),
+    ] {
         let (after, _) = after_step(&[lone()], gx);
         let expected = Particle::at_rest(1, 1, 64 + vx, 64).moving(vx, 0);
         assert_eq!(after, [expected]);
@@ -104,10 +116,22 @@ fn program_on_refused_and_empty_files() {
     );
 }
 
-/// "Dividing with truncation" and "adding a half and flooring" give other numbers here.
+/// "Dividing with truncation", "adding a half and flooring" and halves away from zero give other numbers
+/// here.
 #[test]
-fn node_velocity_rounds_halves_away_from_zero() {
-    for (momentum, velocity) in [(1, 0), (2, 1), (3, 1), (5, 1), (6, 2), (7, 2)] {
+fn node_velocity_rounds_halves_to_the_even_neighbour() {
+    for (momentum, velocity) in [
+        (1, 0),
+        (2, 0),
+        (3, 1),
+        (5, 1),
+        (6, 2),
+        (7, 2),
+        (9, 2),
+        (10, 2),
+        (11, 3),
+        (14, 4),
+    ] {
         let mut grid = Grid::filled(SMALL.nodes(), 1, momentum, -momentum);
         update(Settings::new(SMALL, 0, 0), &mut grid.buffers()).unwrap();
         let expected = Grid::filled(SMALL.nodes(), 1, velocity, -velocity);

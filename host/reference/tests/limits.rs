@@ -358,19 +358,23 @@ fn node_masses() {
     );
 }
 
+/// The half above an even velocity is the last accepted; above an odd one it is beyond, and the twelfth
+/// before it is the last.
 #[test]
 fn node_velocities_of_update() {
     for sign in [1, -1] {
-        let last = sign * (4 * 3 * 131_072 + 5);
-        assert_eq!(update_node(3, last, 0), (Ok(()), sign * 131_072));
-        assert_eq!(update_node(3, last + sign, 0), (refused(12), last + sign));
-        let g = i128::from(sign) * 4096;
-        let last = sign * (4 * 3 * 126_976 + 5);
-        assert_eq!(update_node(3, last, g), (Ok(()), sign * 131_072));
-        assert_eq!(update_node(3, last + sign, g), (refused(12), last + sign));
-        let last = sign * (4 * 3 * 135_168 + 5);
-        assert_eq!(update_node(3, last, -g), (Ok(()), sign * 131_072));
-        assert_eq!(update_node(3, last + sign, -g), (refused(12), last + sign));
+        for (velocity, twelfths, g) in [
+            (131_072, 6, 0),
+            (126_976, 6, 4096),
+            (135_168, 6, -4096),
+            (131_071, 5, 1),
+            (131_073, 5, -1),
+        ] {
+            let (last, g) = (sign * (12 * velocity + twelfths), i128::from(sign) * g);
+            let next = last + sign;
+            assert_eq!(update_node(3, last, g), (Ok(()), sign * 131_072));
+            assert_eq!(update_node(3, next, g), (refused(12), next));
+        }
     }
 }
 
@@ -385,7 +389,18 @@ fn gather_uniform(start: Particle, ux: i64, uy: i64) -> (Result<(), Refusal>, Pa
 #[test]
 fn gathered_velocity() {
     let start = Particle::at_rest(3, 9, 200, 200);
-    for (u, v) in [(0, 0), (127, 0), (128, 1), (383, 1), (384, 2), (16_255, 63)] {
+    for (u, v) in [
+        (0, 0),
+        (127, 0),
+        (128, 0),
+        (129, 1),
+        (383, 1),
+        (384, 2),
+        (640, 2),
+        (641, 3),
+        (16_000, 62),
+        (16_255, 63),
+    ] {
         for sign in [1, -1] {
             let (u, v) = (sign * u, i128::from(sign) * v);
             let moved = |x, y| Particle::at_rest(3, 9, 200 + x, 200 + y).moving(x, y);
@@ -431,9 +446,13 @@ fn gather_gradient(a: i64, entry: usize) -> (Result<(), Refusal>, [i128; 4]) {
 fn gathered_b() {
     let cases = [
         (7, 0),
-        (8, 1),
+        (8, 0),
+        (9, 1),
         (23, 1),
         (24, 2),
+        (40, 2),
+        (41, 3),
+        (32_744, 2046),
         (32_752, 2047),
         (32_759, 2047),
     ];

@@ -103,10 +103,10 @@ fn a_run_stopped_at_its_46th_step() {
     assert_eq!(grid, updated_grid(settings, &lone(408, 7).pack()));
 }
 
-/// A half always grows: under 128/256 a lone particle gains one unit per step, up to 63.
+/// More than a half grows: under 129/256 a lone particle gains one unit per step, up to 63.
 #[test]
 fn a_run_stopped_by_its_velocity() {
-    let settings = Settings::new(Size::new(48, 4), 128, 0);
+    let settings = Settings::new(Size::new(48, 4), 129, 0);
     let mut records = lone(64, 0).pack();
     let answer = run(
         settings,
@@ -119,6 +119,27 @@ fn a_run_stopped_by_its_velocity() {
         (63, Some(Refusal::at(13, 0)))
     );
     assert_eq!(Particle::unpack(&records), lone(64 + 63 * 32, 63));
+}
+
+/// A half goes to the even neighbour: under 128/256 a lone particle rests, and one whose velocity is odd
+/// gains or loses one unit, once.
+#[test]
+fn a_run_under_half_a_unit() {
+    for sign in [1, -1] {
+        let settings = Settings::new(Size::new(48, 4), 128 * sign, -128 * sign);
+        for (vx, vx_after, vy, vy_after) in [(0, 0, 0, 0), (1, 2, 0, 0), (2, 2, 1, 0)] {
+            let start = Particle::at_rest(40, 3, 1500, 100);
+            let mut records = start.moving(sign * vx, sign * vy).pack();
+            let mut grid = Grid::zero(192);
+            let answer = run(settings, 500, &mut records, &mut grid.buffers());
+            assert_eq!((answer.completed, answer.refusal), (500, None));
+            let after = Particle {
+                x: start.x + 500 * sign * vx_after,
+                ..start.moving(sign * vx_after, sign * vy_after)
+            };
+            assert_eq!(Particle::unpack(&records), after);
+        }
+    }
 }
 
 #[test]

@@ -39,6 +39,7 @@ pub fn samples() -> Vec<Sample> {
         sticky(),
         drag(),
         spinning(),
+        still(),
     ]
 }
 
@@ -55,7 +56,7 @@ fn bath_file(settings: Settings, steps: i128, particles: &[Particle]) -> Vec<u8>
 }
 
 /// Settings without gravity.
-fn still(nx: i128, ny: i128) -> Settings {
+fn weightless(nx: i128, ny: i128) -> Settings {
     Settings::new(Size::new(nx, ny), 0, 0)
 }
 
@@ -64,7 +65,7 @@ fn printed() -> Sample {
     let particle = Particle::at_rest(7, 2, 64, 64).moving(3, -2);
     Sample {
         name: "printed",
-        file: bath_file(still(4, 4), 1, &[particle]),
+        file: bath_file(weightless(4, 4), 1, &[particle]),
     }
 }
 
@@ -87,7 +88,7 @@ fn refused() -> Sample {
     ];
     Sample {
         name: "refused",
-        file: bath_file(still(8, 8), 100, &particles),
+        file: bath_file(weightless(8, 8), 100, &particles),
     }
 }
 
@@ -100,7 +101,7 @@ fn spinning() -> Sample {
     ];
     Sample {
         name: "spinning",
-        file: bath_file(still(9, 8), 1_000, &particles),
+        file: bath_file(weightless(9, 8), 1_000, &particles),
     }
 }
 
@@ -132,7 +133,7 @@ fn spreading() -> Sample {
     }
     Sample {
         name: "spreading",
-        file: bath_file(still(3 * CELLS, 3 * CELLS), 5_000, &particles),
+        file: bath_file(weightless(3 * CELLS, 3 * CELLS), 5_000, &particles),
     }
 }
 
@@ -176,7 +177,7 @@ fn leaving() -> Sample {
     let particles = whirl(11, (320, 240), (736, 736), 0, 16);
     Sample {
         name: "leaving",
-        file: bath_file(still(24, 24), 1_000, &particles),
+        file: bath_file(weightless(24, 24), 1_000, &particles),
     }
 }
 
@@ -257,5 +258,16 @@ fn drag() -> Sample {
     Sample {
         name: "drag",
         file: bath_file(settings, 240, &particles),
+    }
+}
+
+/// At rest under half a unit of gravity on each axis: a half goes to the even neighbour, and it stays
+/// where it is.
+fn still() -> Sample {
+    let settings = Settings::new(Size::new(13, 10), 128, -128);
+    let particles = whirl(29, (180, 60), (390, 280), 0, 0);
+    Sample {
+        name: "still",
+        file: bath_file(settings, 5_000, &particles),
     }
 }

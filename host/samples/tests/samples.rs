@@ -2,10 +2,11 @@
 
 use reference::conservation::{Ledger, NodeChanges};
 use reference::limits::HEADER_LENGTH;
-use reference::particle_set::{particles, Totals};
+use reference::particle_set::{pack_records, particles, Totals};
 use reference::report::program_by;
 use reference::simulation::run_by;
-use reference::{read_file, Edge, Grid, Header, Particle, RunAnswer, Settings, Size, Sums};
+use reference::transfer::scatter_by;
+use reference::{read_file, update, Edge, Grid, Header, Particle, RunAnswer, Settings, Size, Sums};
 use samples::{samples, Sample};
 
 fn sample(name: &str) -> Sample {
@@ -175,6 +176,33 @@ fn spinning_sections_have_motion() {
 }
 
 #[test]
+fn still_rests_under_half_a_unit() {
+    let (settings, before, after, answer) = run_sample("still");
+    assert!(is_skew(settings));
+    assert_eq!((settings.gx, settings.gy), (128, -128));
+    assert_eq!((answer.completed, answer.refusal), (5_000, None));
+    assert_eq!(after, before);
+    assert_eq!((after.len(), motion(&after)), (60, 0));
+    // Half a unit at every node that it reaches: away from zero it would be 1 and −1.
+    let mut grid = Grid::zero(settings.size.nodes());
+    let records = pack_records(&before);
+    scatter_by(Sums::Nearby, settings.size, &records, &mut grid.buffers()).unwrap();
+    update(settings, &mut grid.buffers()).unwrap();
+    for (node, &mass) in grid.mass.iter().enumerate() {
+        let velocity = if mass > 0 { (128, -128) } else { (0, 0) };
+        assert_eq!((grid.x[node], grid.y[node]), velocity);
+    }
+    let (_, _, after, _) = run_changed("still", |settings| Settings {
+        gx: 129,
+        gy: -129,
+        ..settings
+    });
+    assert_eq!(moving(&after), after.len());
+    assert!(mean(&after, |p| p.x) > mean(&before, |p| p.x));
+    assert!(mean(&after, |p| p.y) < mean(&before, |p| p.y));
+}
+
+#[test]
 fn small_ones_print_this() {
     let printed = "done 1 refusal 0 at 0\n\
                    mass 2 px 6 py -4 spin -640 motion 26624\n\
@@ -189,7 +217,7 @@ fn small_ones_print_this() {
 fn keeps_to_demand_3(name: &str) {
     let (settings, before, after, answer) = run_sample(name);
     let mut ledger = Ledger::new(&before);
-    let mut records = reference::particle_set::pack_records(&before);
+    let mut records = pack_records(&before);
     let mut grid = Grid::zero(settings.size.nodes());
     let mut now = before;
     for _ in 0..answer.completed {
@@ -216,6 +244,7 @@ fn runs_keep_to_demand_3() {
         "full",
         "sticky",
         "drag",
+        "still",
     ]
     .into_iter()
     .for_each(keeps_to_demand_3);
@@ -232,7 +261,12 @@ fn with_steps(file: &[u8], steps: i128) -> Vec<u8> {
 
 #[test]
 fn first_steps_by_literal_sums() {
-    let few = [("spreading", 20), ("leaving", 20), ("full", 1)];
+    let few = [
+        ("spreading", 20),
+        ("leaving", 20),
+        ("full", 1),
+        ("still", 20),
+    ];
     let whole = [
         ("thrown", 34),
         ("falling", 200),

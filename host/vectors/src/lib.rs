@@ -23,6 +23,7 @@
 #![warn(missing_docs)]
 
 mod cases;
+pub mod roundings;
 mod text;
 
 use reference::report::program;

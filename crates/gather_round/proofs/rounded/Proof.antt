@@ -1,47 +1,69 @@
 -- `gather_round::rounded` meets its contract, by `rounded-shift`.
 -- Assumes nothing.
-use mathlib.Core.Path.{_≡_}
-use Prim.Native.Nat.{ℕ, _^_}
-use lib.IntN.{ℤ, pos, _+ℤ_}
+use mathlib.Core.Path.{_≡_, ap, _∙_}
+use mathlib.Core.List.{[], _∷_}
+use Prim.Native.Nat.{_^_}
+use native.Mathlib.Omega.{arith}
+use lib.IntN.{ℤ, pos, _+ℤ_, _-ℤ_}
 use lib.Signed.{shrZ}
 use lib.Dec.{lit<}
 use mir.Syntax.{w64}
 use mir.Val.{SFits}
-use borrow.Author.Needs.{needs}
+use mir.Facts.{toZ-ofZ}
+use Rattle.arith.specs.Order.{linear, reading, nothing}
 use Rattle.arith.specs.Size.{Bound, fits, sizes}
-use Rattle.arith.specs.Rounding.{rounded, rounded-shift}
+use Rattle.arith.specs.Machine.{lowest-bit}
+use Rattle.arith.specs.Rounding.{parity, rounded, parity-bound, rounded-shift}
 use Rattle.gather_round.proofs.rounded.Statement.{statement}
 use Rattle.gather_round.proofs.rounded.Tie as tie
 
-abbrev limit : ℕ
-limit = 1152921504606846976
+-- 2, or 1 where the floor is odd
+abbrev less : ℤ → ℤ
+less z = pos 2 -ℤ pos (parity (shrZ z 17179869184))
 
-shifted : (z : ℤ) → Bound z limit → shrZ (z +ℤ pos 8589934592 +ℤ shrZ z 9223372036854775808) 17179869184 ≡ rounded z (2 ^ 34)
-shifted z h = rounded-shift z 8589934592 (lit< tt) h
+abbrev raised : ℤ → ℤ
+raised z = z +ℤ pos 8589934593 -ℤ less z
+
+shifted : (z : ℤ) → shrZ (raised z) 17179869184 ≡ rounded z (2 ^ 34)
+shifted z = ap (λ s. shrZ s 17179869184) (same z (pos (parity (shrZ z 17179869184)))) ∙ rounded-shift z 8589934592 (lit< tt)
+  where
+    same : (z p : ℤ) → z +ℤ pos 8589934593 -ℤ (pos 2 -ℤ p) ≡ z +ℤ pos 8589934591 +ℤ p
+    same z p = linear (z ∷ p ∷ []) nothing (search reading depth 30) (omega arith)
 
 record Fit (z : ℤ) : Type 0 where
-  half : SFits w64 (z +ℤ pos 8589934592)
-  sign : SFits w64 (shrZ z 9223372036854775808)
-  sum : SFits w64 (z +ℤ pos 8589934592 +ℤ shrZ z 9223372036854775808)
-  result : SFits w64 (shrZ (z +ℤ pos 8589934592 +ℤ shrZ z 9223372036854775808) 17179869184)
+  above : SFits w64 (z +ℤ pos 8589934593)
+  floor : SFits w64 (shrZ z 17179869184)
+  less-fits : SFits w64 (less z)
+  sum : SFits w64 (raised z)
+  result : SFits w64 (shrZ (raised z) 17179869184)
 
-fit : {z : ℤ} → Bound z limit → Fit z
-fit h =
+fit : (z : ℤ) → Bound z 1152921504606846976 → Fit z
+fit z h =
+    let bit = parity-bound (shrZ z 17179869184) in
     record {
-      half = fits (search sizes depth 20) tt;
-      sign = fits (search sizes depth 20) tt;
+      above = fits (search sizes depth 20) tt;
+      floor = fits (search sizes depth 20) tt;
+      less-fits = fits (search sizes depth 20) tt;
       sum = fits (search sizes depth 20) tt;
       result = fits (search sizes depth 20) tt;
     }
 
-add-result : tie.Need-add-result
-add-result c = let f = fit (c .pre) in search needs
+given : (c : tie.Start) → Fit (c .args .sum)
+given c = fit (c .args .sum) (c .pre)
 
-add-result-2 : tie.Need-add-result-2
-add-result-2 c = let f = fit (c .pre) in search needs
+add-result : tie.Need-add-result
+add-result c = rw (toZ-ofZ (c .fits .sum)) (given c .above)
+
+sub-result : tie.Need-sub-result
+sub-result c = rw (toZ-ofZ (c .fits .sum), lowest-bit _ (given c .floor)) (given c .less-fits)
+
+sub-result-2 : tie.Need-sub-result-2
+sub-result-2 c = rw (toZ-ofZ (c .fits .sum), toZ-ofZ (given c .above), lowest-bit _ (given c .floor), toZ-ofZ (given c .less-fits)) (given c .sum)
 
 returns : tie.Need-returns
-returns c = let f = fit (c .pre) in let e = shifted (c .args .sum) (c .pre) in search needs
+returns c =
+    rw (toZ-ofZ (c .fits .sum), toZ-ofZ (given c .above), lowest-bit _ (given c .floor), toZ-ofZ (given c .less-fits), toZ-ofZ (given c .sum), toZ-ofZ (given c .result))
+    (shifted (c .args .sum))
 
 pub rounded-spec : {M : Type 1} → statement M
-rounded-spec = tie.close (tie.spec add-result add-result-2 returns)
+rounded-spec = tie.close (tie.spec add-result sub-result sub-result-2 returns)

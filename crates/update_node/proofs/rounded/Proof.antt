@@ -1,7 +1,7 @@
 -- `update_node::rounded` meets its contract. Assumes nothing.
 use mathlib.Core.Path.{_≡_, sym, ap, _∙_}
 use mathlib.Core.Bool.{true}
-use Prim.Native.Nat.{ℕ, _+_, _/_, _<_}
+use Prim.Native.Nat.{ℕ, suc, _+_, _<_}
 use native.Mathlib.Numerals.{add-one}
 use native.Mathlib.Omega.{arith}
 use lib.IntN.{ℤ, pos, negsuc, negℤ, natAbs, _-ℤ_}
@@ -10,21 +10,17 @@ use mir.Syntax.{w64}
 use mir.Val.{SFits, toZ, ofZ}
 use mir.Facts.{toZ-ofZ}
 use borrow.Author.Needs.{needs}
-use Rattle.arith.specs.Rounding.{rounded}
-use Rattle.update_node.specs.Internal.{Divisor}
-use Rattle.update_node.proofs.Sizes.{rounds, rounds-negative, sign, less-fits, less-size, less-small, less-cast, plain-cast, held, negated-fits, negated, negated-size}
+use Rattle.arith.specs.Rounding.{rounded, rounded-odd}
+use Rattle.update_node.proofs.Sizes.{positive, by-size, sign, less-fits, less-size, less-small, less-cast, plain-cast, held, negated-fits, negated, negated-size}
 use Rattle.update_node.proofs.rounded.Statement.{statement}
 use Rattle.update_node.proofs.rounded.Tie as tie
 
-positive : {d : ℕ} → Divisor d → 0 < d
-positive h = omega (arith, h .least)
-
 -- below 0
 module _ (z : ℤ) (fits : SFits w64 z) (test : ltZ (toZ w64 (ofZ w64 z)) (pos 0) ≡ true) where
-  answer : (d r : ℕ) → 0 < d → r ≡ (natAbs (toZ w64 (ofZ w64 (negsuc 0 -ℤ toZ w64 (ofZ w64 z)))) + 1 + d / 2) / d → negℤ (pos r) ≡ rounded z d
+  answer : (d r : ℕ) → 0 < d → pos r ≡ rounded (pos (natAbs (toZ w64 (ofZ w64 (negsuc 0 -ℤ toZ w64 (ofZ w64 z)))) + 1)) d → negℤ (pos r) ≡ rounded z d
   answer d r p e =
-      ap (λ n. negℤ (pos n)) (e ∙ ap (λ n. (n + d / 2) / d) (ap (λ n. n + 1) (less-size z fits test) ∙ add-one (sign z fits test .less)))
-      ∙ sym (rounds-negative d p (sign z fits test .less))
+      ap negℤ (e ∙ ap (λ n. rounded (pos n) d) (ap (λ n. n + 1) (less-size z fits test) ∙ add-one (sign z fits test .less)))
+      ∙ sym (rounded-odd (pos (suc (sign z fits test .less))) d p)
       ∙ ap (λ y. rounded y d) (sym (sign z fits test .is))
 
 sub-rounded-size : tie.Need-sub-rounded-size
@@ -70,8 +66,8 @@ returns-2 c =
     let f = s .fits .momentum in
     let r = c .rounded-size2 .result in
     let h = c .rounded-size2 .ensures .1 in
-    let e = rounds (s .args .divisor) (positive (s .pre)) (s .args .momentum) (rw (toZ-ofZ f) at (c .before .if1 .left)) in
-    (held r h ∙ ap pos (rw (toZ-ofZ f) at (c .rounded-size2 .ensures .0)) ∙ sym e, rw (held r h) h)
+    let e = by-size (s .args .momentum) (rw (toZ-ofZ f) at (c .before .if1 .left)) in
+    (held r h ∙ (rw (toZ-ofZ f) at (c .rounded-size2 .ensures .0)) ∙ ap (λ z. rounded z (s .args .divisor)) e, rw (held r h) h)
 
 pub rounded-spec : {M : Type 1} → statement M
 rounded-spec =

@@ -1,6 +1,7 @@
 //! The cases, operation by operation.
 
 mod files;
+mod halves;
 mod records;
 mod sets;
 mod simulation;
@@ -18,6 +19,7 @@ pub fn cases() -> Vec<Case> {
         sets::cases(),
         transfers::cases(),
         simulation::cases(),
+        halves::cases(),
         files::cases(),
     ]
     .concat()

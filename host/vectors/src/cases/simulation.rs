@@ -125,8 +125,14 @@ fn step_cases() -> Vec<Case> {
         ),
         step("gx-127", SMALL, 127, &[lone(1)], None),
         step("gx-128", SMALL, 128, &[lone(1)], None),
+        step("gx-129", SMALL, 129, &[lone(1)], None),
+        step("gx-384", SMALL, 384, &[lone(1)], None),
+        step("gx-640", SMALL, 640, &[lone(1)], None),
         step("gx--127", SMALL, -127, &[lone(1)], None),
         step("gx--128", SMALL, -128, &[lone(1)], None),
+        step("gx--129", SMALL, -129, &[lone(1)], None),
+        step("gx--384", SMALL, -384, &[lone(1)], None),
+        step("gx--640", SMALL, -640, &[lone(1)], None),
         step("gx-4096", SMALL, 4096, &[lone(1)], None),
         step(
             "Bxx-1024",
@@ -269,7 +275,7 @@ fn examples() -> Vec<Case> {
         case(format!("run/{name}"), operation, buffers, stated)
     };
     let still = Settings::new(MIDDLE, 0, 0);
-    let falling = Settings::new(Size::new(48, 4), 128, 0);
+    let falling = Settings::new(Size::new(48, 4), 129, 0);
     let gliding = Particle::at_rest(40, 3, 100, 100).moving(7, 0);
     let meeting = [
         Particle::at_rest(1, 1, 113, 192)

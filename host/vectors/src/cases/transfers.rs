@@ -398,14 +398,14 @@ fn update_nodes(
     update_nodes_with(name, settings(gravity.0, gravity.1), nodes, stated)
 }
 
-/// The same with these settings on 4 by 4 nodes.
-fn update_nodes_with(
+/// The same with these settings.
+pub fn update_nodes_with(
     name: &str,
     settings: Settings,
     nodes: &[(u64, i64, i64)],
     stated: Option<(u32, usize)>,
 ) -> Case {
-    let mut grid = Grid::zero(SMALL.nodes());
+    let mut grid = Grid::zero(settings.size.nodes());
     for (node, &(mass, x, y)) in nodes.iter().enumerate() {
         (grid.mass[2 + node], grid.x[2 + node], grid.y[2 + node]) = (mass, x, y);
     }
@@ -419,7 +419,7 @@ fn update_nodes_with(
 }
 
 /// The greatest node mass.
-const HEAVY: u64 = 1 << 43;
+pub const HEAVY: u64 = 1 << 43;
 
 fn update_cases() -> Vec<Case> {
     let accepted = |name, gravity, nodes: &[_]| update_nodes(name, gravity, nodes, None);
@@ -437,6 +437,11 @@ fn update_cases() -> Vec<Case> {
             "below-half-of-mass-2^43",
             (7, 7),
             &[(HEAVY, half - 1, 1 - half)],
+        ),
+        accepted(
+            "above-half-of-mass-2^43",
+            (7, 7),
+            &[(HEAVY, half + 1, -half - 1)],
         ),
     ]
 }
@@ -481,33 +486,30 @@ fn update_refused_nodes() -> Vec<Case> {
     ]
 }
 
-/// The last momentum of a node of mass 3 whose velocity is accepted, and the next.
+/// The last momentum of a node whose velocity is accepted, and the next: the half above an even velocity
+/// is still accepted, that above an odd one is not.
 fn update_velocity_edges() -> Vec<Case> {
     let mut cases = Vec::new();
     for (name, velocity, g) in [
         ("velocity-131072", 131_072, 0),
         ("velocity-131072-gravity-along", 126_976, 4096),
         ("velocity-131072-gravity-against", 135_168, -4096),
+        ("velocity-131072-gravity-1-along", 131_071, 1),
+        ("velocity-131072-gravity-1-against", 131_073, -1),
     ] {
-        for (sign, way) in [(1, "up"), (-1, "down")] {
-            let (last, g) = (sign * (12 * velocity + 5), i128::from(sign) * g);
-            let next = last + sign;
-            let (accepted, refused) = (format!("{name}-{way}"), format!("{name}-{way}-passed"));
-            cases.extend([
-                update_nodes(&accepted, (g, g), &[(3, last, last)], None),
-                update_nodes(
-                    &format!("{refused}-x"),
-                    (g, g),
-                    &[(3, next, last)],
-                    Some((12, 2)),
-                ),
-                update_nodes(
-                    &format!("{refused}-y"),
-                    (g, g),
-                    &[(3, last, next)],
-                    Some((12, 2)),
-                ),
-            ]);
+        for (mass, mass_name) in [(3, ""), (HEAVY, "-mass-2^43")] {
+            for (sign, way) in [(1, "up"), (-1, "down")] {
+                let half = (4 * velocity + 2) * mass as i64;
+                let (last, g) = (sign * (half - velocity % 2), i128::from(sign) * g);
+                let next = last + sign;
+                let name = format!("{name}{mass_name}-{way}");
+                let mut update = |name: &str, x: i64, y: i64, stated| {
+                    cases.push(update_nodes(name, (g, g), &[(mass, x, y)], stated));
+                };
+                update(&name, last, last, None);
+                update(&format!("{name}-passed-x"), next, last, Some((12, 2)));
+                update(&format!("{name}-passed-y"), last, next, Some((12, 2)));
+            }
         }
     }
     cases
@@ -559,7 +561,7 @@ fn update_rims() -> Vec<Case> {
 
 /// 11 and 12 at a node of the band, and 12 of a velocity that drag would bring within its limit.
 fn update_refused_before_drag_and_rim() -> Vec<Case> {
-    let (last, next) = (12 * 131_072 + 5, 12 * 131_072 + 6);
+    let (last, next) = (12 * 131_072 + 6, 12 * 131_072 + 7);
     let mut cases = Vec::new();
     for (edge, drag) in [
         (Edge::OPEN, 255),
@@ -602,14 +604,14 @@ fn gather_uniform(
 }
 
 /// A velocity buffer by column and row.
-fn field(size: Size, velocity: impl Fn(i64, i64) -> i64) -> Vec<i64> {
+pub fn field(size: Size, velocity: impl Fn(i64, i64) -> i64) -> Vec<i64> {
     (0..size.nodes() as i64)
         .map(|node| velocity(node % size.nx as i64, node / size.nx as i64))
         .collect()
 }
 
 /// A gather from the given velocities.
-fn gather_field(
+pub fn gather_field(
     name: &str,
     size: Size,
     particles: &[Particle],
@@ -724,7 +726,7 @@ fn gather_cases() -> Vec<Case> {
             None,
         ),
     ];
-    for u in [127, 128, 129, 383, 384] {
+    for u in [127, 128, 129, 383, 384, 385, 639, 640, 641] {
         cases.push(gather_uniform(
             &format!("v-of-{u}"),
             MIDDLE,
@@ -744,7 +746,7 @@ fn gather_b_cases() -> Vec<Case> {
     let still = || vec![0; MIDDLE.nodes()];
     let middle = Particle::at_rest(3, 9, 192, 192);
     let mut cases = Vec::new();
-    for size in [7, 8, 24, 32_759, 32_760] {
+    for size in [7, 8, 9, 23, 24, 25, 39, 40, 41, 32_744, 32_759, 32_760] {
         let stated = (size == 32_760).then_some((14, 0));
         for a in [size, -size] {
             for (entry, field) in [
