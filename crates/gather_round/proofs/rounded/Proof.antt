@@ -10,6 +10,7 @@ use lib.Dec.{lit<}
 use mir.Syntax.{w64}
 use mir.Val.{SFits}
 use mir.Facts.{toZ-ofZ}
+use borrow.Author.Needs.{needs}
 use Rattle.arith.specs.Order.{linear, reading, nothing}
 use Rattle.arith.specs.Size.{Bound, fits, sizes}
 use Rattle.arith.specs.Machine.{lowest-bit}
@@ -48,21 +49,19 @@ fit z h =
       result = fits (search sizes depth 20) tt;
     }
 
-given : (c : tie.Start) → Fit (c .args .sum)
-given c = fit (c .args .sum) (c .pre)
-
 add-result : tie.Need-add-result
-add-result c = rw (toZ-ofZ (c .fits .sum)) (given c .above)
+add-result c = let f = fit (c .args .sum) (c .pre) in search needs
 
 sub-result : tie.Need-sub-result
-sub-result c = rw (toZ-ofZ (c .fits .sum), lowest-bit _ (given c .floor)) (given c .less-fits)
+sub-result c = let f = fit (c .args .sum) (c .pre) in search (needs, lowest-bit)
 
 sub-result-2 : tie.Need-sub-result-2
-sub-result-2 c = rw (toZ-ofZ (c .fits .sum), toZ-ofZ (given c .above), lowest-bit _ (given c .floor), toZ-ofZ (given c .less-fits)) (given c .sum)
+sub-result-2 c = let f = fit (c .args .sum) (c .pre) in search (needs, lowest-bit)
 
 returns : tie.Need-returns
 returns c =
-    rw (toZ-ofZ (c .fits .sum), toZ-ofZ (given c .above), lowest-bit _ (given c .floor), toZ-ofZ (given c .less-fits), toZ-ofZ (given c .sum), toZ-ofZ (given c .result))
+    let f = fit (c .args .sum) (c .pre) in
+    simp (toZ-ofZ (c .fits .sum), toZ-ofZ (f .above), lowest-bit _ (f .floor), toZ-ofZ (f .less-fits), toZ-ofZ (f .sum), toZ-ofZ (f .result))
     (shifted (c .args .sum))
 
 pub rounded-spec : {M : Type 1} → statement M
