@@ -5,7 +5,7 @@
  *
  * Slices. A slice is a pointer and its number of elements. The pointer is aligned for its type and
  * leads to as many initialised elements as the number says; where the number is 0 nothing is read or
- * written through it, and it may be NULL. An array parameter, `values[10]`, and a pointer to one
+ * written through it, and it may be NULL. An array parameter, `values[11]`, and a pointer to one
  * number, `count` and `completed`, are never NULL. What a function writes to overlaps nothing else
  * of the call. Nothing is kept after a call, and no function has any state, so calls may run at the
  * same time on memory of their own.
@@ -17,8 +17,8 @@
  *                              counted from 0, or 0 where there is none; GONDWIZE_NUMBER and
  *                              GONDWIZE_PLACE take it apart
  * A refused call leaves everything as it was, unless said. Checks run in the order listed. A number
- * is refused and never cut where a limit is listed for it; a record's identifier has no limit, and is
- * a number of 16 bits.
+ * is refused and never cut where a limit is listed for it; a record's identifier and its marks have no
+ * limit, and are numbers of 16 and of 8 bits.
  *
  * Stack. The most that a call needs, from its caller's frame down, by the number of its particles, in
  * kB of 1,000 bytes. A call that takes no set stands under 0; one that ends with 13, 14, 15, 20 or 21
@@ -47,8 +47,8 @@
 #include <stddef.h>
 #include <stdint.h>
 
-#define GONDWIZE_VERSION "4.0.0"
-#define GONDWIZE_VERSION_MAJOR 4
+#define GONDWIZE_VERSION "5.0.0"
+#define GONDWIZE_VERSION_MAJOR 5
 #define GONDWIZE_VERSION_MINOR 0
 #define GONDWIZE_VERSION_PATCH 0
 
@@ -72,7 +72,7 @@
 /* ---- Limits. */
 
 /* Lengths in bytes: a record, a header, the longest set, a file of so many records, the longest. */
-#define GONDWIZE_RECORD_LENGTH 14
+#define GONDWIZE_RECORD_LENGTH 15
 #define GONDWIZE_HEADER_LENGTH 11
 #define GONDWIZE_MOST_RECORDS 4096
 #define GONDWIZE_MOST_SET_LENGTH (GONDWIZE_RECORD_LENGTH * GONDWIZE_MOST_RECORDS)
@@ -80,8 +80,8 @@
 #define GONDWIZE_MOST_FILE_LENGTH (GONDWIZE_HEADER_LENGTH + GONDWIZE_MOST_SET_LENGTH)
 
 /* How many values a function hands back. */
-#define GONDWIZE_PARTICLE_VALUES 10
-#define GONDWIZE_TOTALS_VALUES 5
+#define GONDWIZE_PARTICLE_VALUES 11
+#define GONDWIZE_TOTALS_VALUES 6
 #define GONDWIZE_WEIGHTS_VALUES 3
 #define GONDWIZE_HEADER_VALUES 9
 
@@ -127,8 +127,8 @@
 /* ---- Refusals. */
 
 /*
- * Number, name, and what is broken. A wrong length is: a record not 14, a header not 11, a set not a
- * multiple of 14 or above 57,344, a file shorter than 11 or not 11 + 14 * count, a grid buffer not
+ * Number, name, and what is broken. A wrong length is: a record not 15, a header not 11, a set not a
+ * multiple of 15 or above 61,440, a file shorter than 11 or not 11 + 15 * count, a grid buffer not
  * nx * ny. A position is off the grid, or, in writing a record, above 4095.
  */
 #define GONDWIZE_REFUSALS(X) \
@@ -188,42 +188,44 @@ static inline const char *gondwize_refusal_text(uint32_t number)
 /* ---- Records. */
 
 /*
- * Reads a particle record. `values`: identifier, mass, x, y, vx, vy, Bxx, Bxy, Byx, Byy.
- * Refused: 1 length not 14; 4 mass zero; 5 a velocity of -64; 6 a B entry of -2048.
+ * Reads a particle record. `values`: identifier, mass, x, y, vx, vy, Bxx, Bxy, Byx, Byy, marks.
+ * Refused: 1 length not 15; 4 mass zero; 5 a velocity of -64; 6 a B entry of -2048.
  */
 GONDWIZE_MUST_USE uint64_t gondwize_read_record(const uint8_t *bytes, size_t bytes_length,
-                                                int64_t values[GONDWIZE_AT_LEAST(10)]);
+                                                int64_t values[GONDWIZE_AT_LEAST(11)]);
 
 /*
- * Writes a particle record into `bytes`.
- * Refused: 1 length not 14; 4 mass not 1 to 1023; 5 a velocity out of range; 6 a B entry out of
+ * Writes a particle record into `bytes`. Marks are any number of 8 bits. They travel with their
+ * record: no other function changes them, whatever it answers.
+ * Refused: 1 length not 15; 4 mass not 1 to 1023; 5 a velocity out of range; 6 a B entry out of
  * range; 7 x or y above 4095.
  */
 GONDWIZE_MUST_USE uint64_t gondwize_write_record(uint16_t identifier, uint64_t mass,
                                                  uint64_t x, uint64_t y, int64_t vx, int64_t vy,
                                                  int64_t bxx, int64_t bxy,
-                                                 int64_t byx, int64_t byy,
+                                                 int64_t byx, int64_t byy, uint8_t marks,
                                                  uint8_t *bytes, size_t bytes_length);
 
 /* ---- Sets: records one after the other. */
 
 /*
  * Checks a set. `count`: the number of records.
- * Refused: 2; 1 length not a multiple of 14 or above 57,344; then for each record 4, 5, 6, 7, 8, 9.
+ * Refused: 2; 1 length not a multiple of 15 or above 61,440; then for each record 4, 5, 6, 7, 8, 9.
  */
 GONDWIZE_MUST_USE uint64_t gondwize_check_set(size_t nx, size_t ny,
                                               const uint8_t *records, size_t records_length,
                                               uint64_t *count);
 
 /*
- * The sums of a set. `values`: mass, px, py, spin (angular momentum about node (0, 0), affine part
- * included), motion: the sum of m*(1024*(vx*vx + vy*vy) + Bxx*Bxx + Bxy*Bxy + Byx*Byx + Byy*Byy),
- * which is 0 exactly where every velocity and every entry of B is, and below 2^42 in every set.
+ * The sums of a set. `values`: mass, px, py, spin, motion, marks. Spin is the angular momentum about
+ * node (0, 0), affine part included. Motion is the sum of
+ * m*(1024*(vx*vx + vy*vy) + Bxx*Bxx + Bxy*Bxy + Byx*Byx + Byy*Byy), which is 0 exactly where every
+ * velocity and every entry of B is, and below 2^42 in every set.
  * Refused as gondwize_check_set.
  */
 GONDWIZE_MUST_USE uint64_t gondwize_totals(size_t nx, size_t ny,
                                            const uint8_t *records, size_t records_length,
-                                           int64_t values[GONDWIZE_AT_LEAST(5)]);
+                                           int64_t values[GONDWIZE_AT_LEAST(6)]);
 
 /* ---- Steps. Rounding is to nearest, a half to the even neighbour. */
 
@@ -316,7 +318,7 @@ GONDWIZE_MUST_USE uint64_t gondwize_run(size_t nx, size_t ny, int64_t gx, int64_
 /*
  * Reads a bath file, whose records lie from byte 11 on. `values`: nx, ny, gx, gy, count, steps, kind,
  * width, drag.
- * Refused: 1 shorter than 11; 2; 10; 18; 3; 17; 16; 1 length not 11 + 14 * count; then the set.
+ * Refused: 1 shorter than 11; 2; 10; 18; 3; 17; 16; 1 length not 11 + 15 * count; then the set.
  */
 GONDWIZE_MUST_USE uint64_t gondwize_read_file(const uint8_t *bytes, size_t bytes_length,
                                               int64_t values[GONDWIZE_AT_LEAST(9)]);

@@ -2,8 +2,9 @@
  * Holds the static library and its header to what the header says: every limit of a record, of a
  * header and of a run's settings at its edge and far beyond, those of a set, of a node, of a node that
  * is added to and of an offset at their edge and one beyond, what drag and edges leave of a node's
- * velocity, sets that are added in parts, totals, refusals by name and by text, empty slices, and a
- * file that is written and read back. Exits with 1 where something differs, and says where.
+ * velocity, sets that are added in parts, every number of marks and what leaves them, totals, refusals
+ * by name and by text, empty slices, and a file that is written and read back. Exits with 1 where
+ * something differs, and says where.
  */
 #include <inttypes.h>
 #include <stdio.h>
@@ -32,9 +33,10 @@ struct record {
     uint16_t identifier;
     uint64_t mass, x, y;
     int64_t v[2], b[4];
+    uint8_t marks;
 };
 
-static const struct record plain = {7, 1, 64, 64, {3, -3}, {5, -5, 6, -6}};
+static const struct record plain = {7, 1, 64, 64, {3, -3}, {5, -5, 6, -6}, 201};
 
 /* What a write answers. A refused one leaves the buffer, and an accepted one reads back as written. */
 static uint64_t written(const char *what, const struct record *r)
@@ -44,7 +46,8 @@ static uint64_t written(const char *what, const struct record *r)
     memset(before, 0xA5, sizeof before);
     memcpy(bytes, before, sizeof bytes);
     uint64_t answer = gondwize_write_record(r->identifier, r->mass, r->x, r->y, r->v[0], r->v[1],
-                                            r->b[0], r->b[1], r->b[2], r->b[3], bytes, sizeof bytes);
+                                            r->b[0], r->b[1], r->b[2], r->b[3], r->marks, bytes,
+                                            sizeof bytes);
     if (answer != 0) {
         same(what, (uint64_t)memcmp(bytes, before, sizeof bytes), 0);
         return answer;
@@ -52,7 +55,7 @@ static uint64_t written(const char *what, const struct record *r)
     same(what, gondwize_read_record(bytes, sizeof bytes, p), 0);
     const int64_t want[GONDWIZE_PARTICLE_VALUES] = {
         r->identifier, (int64_t)r->mass, (int64_t)r->x, (int64_t)r->y, r->v[0],
-        r->v[1], r->b[0], r->b[1], r->b[2], r->b[3]};
+        r->v[1], r->b[0], r->b[1], r->b[2], r->b[3], r->marks};
     same(what, (uint64_t)memcmp(p, want, sizeof p), 0);
     return 0;
 }
@@ -281,7 +284,7 @@ static uint8_t set[GONDWIZE_MOST_SET_LENGTH];
 
 static void put(size_t at, uint64_t m, uint64_t x, uint64_t y)
 {
-    same("put", gondwize_write_record((uint16_t)at, m, x, y, 0, 0, 0, 0, 0, 0,
+    same("put", gondwize_write_record((uint16_t)at, m, x, y, 0, 0, 0, 0, 0, 0, (uint8_t)(3 * at),
                                       set + at * GONDWIZE_RECORD_LENGTH, GONDWIZE_RECORD_LENGTH), 0);
 }
 
@@ -403,7 +406,7 @@ static void adding_answers(size_t node, uint64_t m, int64_t x, int64_t y, enum g
     mass[node] = m;
     px[node] = x;
     py[node] = y;
-    same("a record to add", gondwize_write_record(7, 3, 192, 128, 5, -9, 30, -7, 200, 11, record,
+    same("a record to add", gondwize_write_record(7, 3, 192, 128, 5, -9, 30, -7, 200, 11, 99, record,
                                                   sizeof record), 0);
     same("adding", gondwize_adding_scatter(ADDING_NX, ADDING_NY, record, sizeof record, mass, ADDING_NODES,
                                            px, ADDING_NODES, py, ADDING_NODES), want);
@@ -453,7 +456,7 @@ static void added_parts(void)
     uint8_t records[LENGTH];
     for (uint16_t k = 0; k < COUNT; k++)
         same("a record of parts", gondwize_write_record(k, 1023, 100 + 9u * k, 150 - 20u * k, 5 * k - 9, 63,
-                                                        2047, -40 * k, 7, -2047,
+                                                        2047, -40 * k, 7, -2047, 40,
                                                         records + k * GONDWIZE_RECORD_LENGTH,
                                                         GONDWIZE_RECORD_LENGTH), 0);
     same("whole", gondwize_scatter(ADDING_NX, ADDING_NY, records, LENGTH, whole_mass, ADDING_NODES,
@@ -545,7 +548,7 @@ static void empty_slices(void)
     int64_t *x = px, *y = py;
     const uint64_t length = refused(GONDWIZE_REFUSED_LENGTH, 0);
     same("read_record", gondwize_read_record(NULL, 0, values), length);
-    same("write_record", gondwize_write_record(7, 1, 64, 64, 0, 0, 0, 0, 0, 0, NULL, 0), length);
+    same("write_record", gondwize_write_record(7, 1, 64, 64, 0, 0, 0, 0, 0, 0, 1, NULL, 0), length);
     same("check_set", gondwize_check_set(4, 4, NULL, 0, &number), 0);
     same("check_set's count", number, 0);
     same("totals", gondwize_totals(4, 4, NULL, 0, values), 0);
@@ -591,10 +594,78 @@ static void answers(void)
     same("text of 22", (uint64_t)strcmp(gondwize_refusal_text(22), "unknown refusal"), 0);
     same("number of an answer", GONDWIZE_NUMBER(UINT64_C(7) << 32 | 70000), 7);
     same("place of an answer", GONDWIZE_PLACE(UINT64_C(7) << 32 | 70000), 70000);
-    same("version", (uint64_t)strcmp(GONDWIZE_VERSION, "4.0.0"), 0);
-    same("length of a file", GONDWIZE_FILE_LENGTH(3), 53);
+    same("version", (uint64_t)strcmp(GONDWIZE_VERSION, "5.0.0"), 0);
+    same("length of a file", GONDWIZE_FILE_LENGTH(3), 56);
     same("length of the longest file", GONDWIZE_FILE_LENGTH(GONDWIZE_MOST_RECORDS), GONDWIZE_MOST_FILE_LENGTH);
-    same("length of the longest set", GONDWIZE_MOST_SET_LENGTH, 57344);
+    same("length of the longest set", GONDWIZE_MOST_SET_LENGTH, 61440);
+}
+
+/* ---- Marks: every number of them, and those of three records, which calls of every kind leave. */
+
+static void each_number_of_marks(void)
+{
+    struct record r = plain;
+    for (unsigned marks = 0; marks <= UINT8_MAX; marks++) {
+        r.marks = (uint8_t)marks;
+        same("marks", written("marks", &r), 0);
+    }
+}
+
+enum { MARKED_NX = 6, MARKED_NY = 5, MARKED_NODES = MARKED_NX * MARKED_NY, MARKED = 3,
+       MARKED_LENGTH = MARKED * GONDWIZE_RECORD_LENGTH };
+
+static const uint16_t marked_identifiers[MARKED] = {3, 7, 500};
+static const uint8_t marked_with[MARKED] = {255, 0, 130};
+
+static void same_marks(const char *what, const uint8_t *records)
+{
+    int64_t values[GONDWIZE_PARTICLE_VALUES];
+    for (size_t k = 0; k < MARKED; k++) {
+        const uint8_t *record = records + k * GONDWIZE_RECORD_LENGTH;
+        same(what, gondwize_read_record(record, GONDWIZE_RECORD_LENGTH, values), 0);
+        same(what, (uint64_t)values[0], marked_identifiers[k]);
+        same(what, (uint64_t)values[GONDWIZE_PARTICLE_VALUES - 1], marked_with[k]);
+    }
+    same(what, gondwize_totals(MARKED_NX, MARKED_NY, records, MARKED_LENGTH, values), 0);
+    same(what, (uint64_t)values[GONDWIZE_TOTALS_VALUES - 1], 255 + 0 + 130);
+}
+
+static uint64_t marked_run(const char *what, uint8_t *records, int64_t gx, int64_t gy, size_t steps)
+{
+    uint64_t completed = 9;
+    const uint64_t answer = gondwize_run(MARKED_NX, MARKED_NY, gx, gy, GONDWIZE_EDGE_SLIP, 1, 3, steps,
+                                         records, MARKED_LENGTH, mass, MARKED_NODES, px, MARKED_NODES,
+                                         py, MARKED_NODES, &completed);
+    same(what, completed == steps, answer == 0);
+    same_marks(what, records);
+    return GONDWIZE_NUMBER(answer);
+}
+
+static void marks_left(void)
+{
+    const size_t nodes = MARKED_NODES;
+    uint8_t records[MARKED_LENGTH];
+    for (uint8_t k = 0; k < MARKED; k++)
+        same("a record with marks", gondwize_write_record(marked_identifiers[k], 5 + 90u * k, 100 + 29u * k,
+                                                          140 - 9u * k, 5 - k, k - 3, 20, -300, 11 * k, 7,
+                                                          marked_with[k], records + k * GONDWIZE_RECORD_LENGTH,
+                                                          GONDWIZE_RECORD_LENGTH), 0);
+    same_marks("marks as written", records);
+    same("a step with marks", gondwize_step(MARKED_NX, MARKED_NY, 9, -30, GONDWIZE_EDGE_OPEN, 0, 0, records,
+                                            sizeof records, mass, nodes, px, nodes, py, nodes), 0);
+    same_marks("marks after a step", records);
+    same("a gather with marks", gondwize_gather(MARKED_NX, MARKED_NY, records, sizeof records, px, nodes, py,
+                                                nodes), 0);
+    same_marks("marks after a gather", records);
+    px[0] = INT64_MAX;
+    same("a refused gather", gondwize_gather(MARKED_NX, MARKED_NY, records, sizeof records, px, nodes, py,
+                                             nodes), refused(GONDWIZE_REFUSED_NODE_VELOCITY, 0));
+    same_marks("marks after a refused gather", records);
+    same("a run", marked_run("marks after a run", records, 9, -30, 4), 0);
+    same("a refused run", marked_run("marks after a refused run", records, 9, -4097, 4),
+         GONDWIZE_REFUSED_GRAVITY);
+    same("a stopped run", marked_run("marks after a stopped run", records, 900, -4000, 10000),
+         GONDWIZE_REFUSED_NEW_POSITION);
 }
 
 /* ---- The totals of a particle that moves, of one that turns in place, and of one at rest. */
@@ -603,16 +674,16 @@ static void totals(void)
 {
     const int64_t particles[][6] = {{3, -2, 10, 200, -300, 41}, {0, 0, 0, -81, 81, 0}, {0, 0, 0, 0, 0, 0}};
     const int64_t want[][GONDWIZE_TOTALS_VALUES] = {
-        {5, 15, -10, 5 * (70 * -2 - 90 * 3 - 300 - 200), 5 * (1024 * 13 + 100 + 40000 + 90000 + 1681)},
-        {5, 0, 0, 5 * 162, 5 * 2 * 6561},
-        {5, 0, 0, 0, 0},
+        {5, 15, -10, 5 * (70 * -2 - 90 * 3 - 300 - 200), 5 * (1024 * 13 + 100 + 40000 + 90000 + 1681), 0},
+        {5, 0, 0, 5 * 162, 5 * 2 * 6561, 127},
+        {5, 0, 0, 0, 0, 254},
     };
     for (int k = 0; k < 3; k++) {
         const int64_t *p = particles[k];
         uint8_t record[GONDWIZE_RECORD_LENGTH];
         int64_t values[GONDWIZE_TOTALS_VALUES];
         same("a record for totals", gondwize_write_record(7, 5, 70, 90, p[0], p[1], p[2], p[3], p[4], p[5],
-                                                          record, sizeof record), 0);
+                                                          (uint8_t)(127 * k), record, sizeof record), 0);
         same("totals", gondwize_totals(4, 5, record, sizeof record, values), 0);
         same("totals' values", (uint64_t)memcmp(values, want[k], sizeof values), 0);
     }
@@ -632,7 +703,7 @@ static void files(void)
                                          GONDWIZE_HEADER_LENGTH), 0);
     for (uint16_t k = 0; k < COUNT; k++) {
         uint8_t *at = file + GONDWIZE_FILE_LENGTH(k);
-        same("record", gondwize_write_record(k, 5, last, GONDWIZE_FIRST_PLACE, 0, 0, 0, 0, 0, 0, at,
+        same("record", gondwize_write_record(k, 5, last, GONDWIZE_FIRST_PLACE, 0, 0, 0, 0, 0, 0, 200, at,
                                              GONDWIZE_RECORD_LENGTH), 0);
     }
     same("file", gondwize_read_file(file, sizeof file, values), 0);
@@ -640,7 +711,9 @@ static void files(void)
     same("file's records", gondwize_check_set(NX, NY, file + GONDWIZE_HEADER_LENGTH,
                                               sizeof file - GONDWIZE_HEADER_LENGTH, &number), 0);
     same("file's count", number, COUNT);
-    same("last record", gondwize_write_record(COUNT, 5, last + 1, GONDWIZE_FIRST_PLACE, 0, 0, 0, 0, 0, 0,
+    same("a byte less for each record", gondwize_read_file(file, sizeof file - COUNT, values),
+         refused(GONDWIZE_REFUSED_LENGTH, 0));
+    same("last record", gondwize_write_record(COUNT, 5, last + 1, GONDWIZE_FIRST_PLACE, 0, 0, 0, 0, 0, 0, 9,
                                               file + GONDWIZE_FILE_LENGTH(COUNT - 1),
                                               GONDWIZE_RECORD_LENGTH), 0);
     uint64_t answer = gondwize_read_file(file, sizeof file, values);
@@ -665,6 +738,8 @@ int main(void)
     velocities_left();
     offsets();
     empty_slices();
+    each_number_of_marks();
+    marks_left();
     totals();
     answers();
     files();

@@ -21,8 +21,8 @@ static void print_totals(size_t nx, size_t ny, const uint8_t *records, size_t le
 {
     int64_t t[GONDWIZE_TOTALS_VALUES];
     if (gondwize_totals(nx, ny, records, length, t) == 0)
-        printf("mass %" PRId64 " px %" PRId64 " py %" PRId64 " spin %" PRId64 " motion %" PRId64 "\n",
-               t[0], t[1], t[2], t[3], t[4]);
+        printf("mass %" PRId64 " px %" PRId64 " py %" PRId64 " spin %" PRId64 " motion %" PRId64
+               " marks %" PRId64 "\n", t[0], t[1], t[2], t[3], t[4], t[5]);
 }
 
 static void print_records(const uint8_t *records, size_t length)

@@ -44,6 +44,7 @@ module _ (round : ℤ → ℕ → ℤ) (w : ℕ → ℕ → ℤ) (nx ny : ℕ) w
           bxy = affine-fields alongY ux vx on-x p t;
           byx = affine-fields alongX uy vy on-y p t;
           byy = affine-fields alongY uy vy on-y p t;
+          marks = p .marks;
         }
 
     pub moved-fields : (ps : List Particle) → map (moved round w nx ny ux uy) ps ≡ map (moved round w nx ny vx vy) ps

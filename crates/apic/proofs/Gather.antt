@@ -4,15 +4,14 @@
 --                        the sums that the gather divides
 --     allMoved           the particles after it
 --     NewPlace           a particle's new coordinates are not negative
---     gather-identifiers, gather-masses, gather-mass
---                        identifiers and masses in their order, and the total mass, are kept
+--     gather-keeps       what it keeps of each particle it keeps of all, in their order; gather-labels: their identifiers and marks
 --     gather-exchange    Σ M·f over nodes is Σ m·(Σ W·f) over particles
 --     gather-linear      |2·(2^34·momentum after − Σ M·u)| ≤ 2^34·mass, on each axis
 --     gather-angular     |2·(2^34·(angular momentum after) − Σ M·(X·uy − Y·ux))| ≤ 2^34·(Σ m·(x + y) + 2·mass)
 -- Assumes nothing.
 use mathlib.Core.Path.{_≡_, refl, sym, ap, ap₂, _∙_, subst₂}
 use mathlib.Core.List.{List, [], _∷_, map}
-use Prim.Native.Nat.{ℕ, _+_, _*_, _^_}
+use Prim.Native.Nat.{ℕ, _*_, _^_}
 use lib.Dec.{ltb→lt}
 use lib.IntN.{ℤ, pos, negℤ, natAbs, _+ℤ_, _-ℤ_, _*ℤ_}
 use lib.Signed.{_≤ℤ_}
@@ -22,6 +21,7 @@ use Rattle.arith.specs.Order.{Within, pos-nonneg, nonneg-pos, within-scale, wit
 use Rattle.arith.specs.Rounding.{Nearest}
 use Rattle.arith.specs.Sums.{Each, sumOver, sum-cong, sum-cong-each, sum-add, sum-sub, sum-scale, sum-scale-right, sum-map, sum-within, each-all, total-pos}
 use Rattle.particle.specs.declared.Particle.{Particle}
+use Rattle.particle.specs.Record.{label}
 use Rattle.apic.specs.Step.{Axis, alongX, alongY, apart, weight, nodeMass, overNodes, gatheredVelocity, gatheredAffine, newCoordinate, moved}
 use Rattle.apic.specs.Totals.{totalMass, momentum, angularMomentum, firstMoment}
 use Rattle.apic.proofs.Nodes.{nodes-cong, nodes-sub, nodes-scale, nodes-three-scaled, nodes-exchange}
@@ -49,20 +49,13 @@ pub record NewPlace (round : ℤ → ℕ → ℤ) (w : ℕ → ℕ → ℤ) (nx 
 -- ---- what is kept as it is
 
 module _ (round : ℤ → ℕ → ℤ) (w : ℕ → ℕ → ℤ) (nx ny : ℕ) (ux uy : ℕ → ℕ → ℤ) where
-  pub gather-identifiers : (ps : List Particle) → map (λ p. p .identifier) (allMoved round w nx ny ux uy ps) ≡ map (λ p. p .identifier) ps
-  unfolding moved
-  gather-identifiers [] = refl
-  gather-identifiers (p ∷ ps) = ap (λ l. p .identifier ∷ l) (gather-identifiers ps)
+  pub gather-keeps : {A : Type 0} (f : Particle → A) → ((p : Particle) → f (moved round w nx ny ux uy p) ≡ f p) → (ps : List Particle) → map f (allMoved round w nx ny ux uy ps) ≡ map f ps
+  gather-keeps f same [] = refl
+  gather-keeps f same (p ∷ ps) = ap₂ _∷_ (same p) (gather-keeps f same ps)
 
-  pub gather-masses : (ps : List Particle) → map (λ p. p .mass) (allMoved round w nx ny ux uy ps) ≡ map (λ p. p .mass) ps
+  pub gather-labels : (ps : List Particle) → map label (allMoved round w nx ny ux uy ps) ≡ map label ps
   unfolding moved
-  gather-masses [] = refl
-  gather-masses (p ∷ ps) = ap (λ l. p .mass ∷ l) (gather-masses ps)
-
-  pub gather-mass : (ps : List Particle) → totalMass (allMoved round w nx ny ux uy ps) ≡ totalMass ps
-  unfolding moved
-  gather-mass [] = refl
-  gather-mass (p ∷ ps) = ap (λ m. p .mass + m) (gather-mass ps)
+  gather-labels = gather-keeps label (λ p. refl)
 
 -- ---- from nodes to particles
 

@@ -17,7 +17,7 @@ pub record SizeLimits (nx ny : ℕ) : Type 0 where
   pub y-least : leastSide ≤ ny
   pub y-most : ny ≤ mostSide
 
--- an identifier of 16 bits; mass 1 to 1023; velocities −63 to 63; B entries −2047 to 2047; on the grid
+-- an identifier of 16 bits; mass 1 to 1023; velocities −63 to 63; B entries −2047 to 2047; on the grid; marks of 8 bits
 pub record ParticleLimits (nx ny : ℕ) (p : Particle) : Type 0 where
   pub identifier : p .identifier < 65536
   pub mass-least : leastMass ≤ p .mass
@@ -30,6 +30,7 @@ pub record ParticleLimits (nx ny : ℕ) (p : Particle) : Type 0 where
   pub byy : natAbs (p .byy) ≤ mostAffine
   pub x-on : T (onAxis nx (p .x))
   pub y-on : T (onAxis ny (p .y))
+  pub marks : p .marks < 256
 
 -- identifiers rise strictly
 abbrev pub Rising : List Particle → Type 0

@@ -131,6 +131,7 @@ moved round w nx ny ux uy p =
       bxy = gatheredAffine round w nx ny alongY ux p;
       byx = gatheredAffine round w nx ny alongX uy p;
       byy = gatheredAffine round w nx ny alongY uy p;
+      marks = p .marks;
     }
 
 -- ---- grids as lists: node (i, j) has index j·Nx + i

@@ -1,5 +1,5 @@
--- Document 01, "Totals", with document 02's motion: the sums over a list of particles, gravity's torque in a step, and what
--- drag and rim change.
+-- Document 01, "Totals", with document 02's motion and marks: the sums over a list of particles, gravity's torque in a step,
+-- and what drag and rim change.
 -- Gravity is in 256ths, so its torque is what stands here divided by 256. Assumes nothing.
 use mathlib.Core.List.{List}
 use Prim.Native.Nat.{ℕ, _*_}
@@ -33,6 +33,10 @@ motionPerMass D p =
 -- motion
 abbrev pub motion : ℕ → List Particle → ℤ
 motion D ps = sumOver ps (λ p. pos (p .mass) *ℤ motionPerMass D p)
+
+-- marks
+abbrev pub totalMarks : List Particle → ℕ
+totalMarks ps = totalOver ps (λ p. p .marks)
 
 -- gravity's torque in a step, times 256, over the places before it
 abbrev pub torque : ℤ → ℤ → List Particle → ℤ

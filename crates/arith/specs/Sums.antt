@@ -4,10 +4,10 @@
 --     sumOver, totalOver                Σ of integers, and of naturals, over a list
 --     sum-cong, sum-cong-each           congruence
 --     sum-zero, sum-add, sum-sub, sum-neg, sum-scale, sum-scale-right
---     sum-append, sum-map, sum-exchange
+--     sum-append, sum-map, total-map, sum-exchange
 --     from-append, each-from            a range falls into two; a property of each number of a range
 --     sum-three                         what is zero but at three neighbours of a range
---     total-pos                         a sum of naturals as a sum of integers
+--     total-pos, total-same             a sum of naturals as a sum of integers; what two lists agree on has one sum
 --     sum-mono, sum-nonneg, sum-within  the order of sums, and the size of a sum against the sum of sizes
 -- Assumes nothing.
 use mathlib.Core.Path.{_≡_, refl, sym, ap, ap₂, _∙_}
@@ -113,6 +113,14 @@ module _ {A : Type 0} where
 pub sum-map : {A B : Type 0} (h : A → B) (f : B → ℤ) (xs : List A) → sumOver (map h xs) f ≡ sumOver xs (λ x. f (h x))
 sum-map h f [] = refl
 sum-map h f (x ∷ xs) = ap (λ s. f (h x) +ℤ s) (sum-map h f xs)
+
+pub total-map : {A B : Type 0} (h : A → B) (f : B → ℕ) (xs : List A) → totalOver (map h xs) f ≡ totalOver xs (λ x. f (h x))
+total-map h f [] = refl
+total-map h f (x ∷ xs) = ap (λ s. f (h x) + s) (total-map h f xs)
+
+-- what two lists agree on has one sum
+pub total-same : {A B : Type 0} (h : A → B) (f : B → ℕ) (xs ys : List A) → map h xs ≡ map h ys → totalOver xs (λ x. f (h x)) ≡ totalOver ys (λ x. f (h x))
+total-same h f xs ys e = sym (total-map h f xs) ∙ ap (λ l. totalOver l f) e ∙ total-map h f ys
 
 pub sum-exchange : {A B : Type 0} (f : A → B → ℤ) (xs : List A) (ys : List B) → sumOver xs (λ x. sumOver ys (λ y. f x y)) ≡ sumOver ys (λ y. sumOver xs (λ x. f x y))
 sum-exchange f [] ys = sym (sum-zero (λ y. pos 0) ys (each-all (λ y. pos 0 ≡ pos 0) (λ y. refl) ys))

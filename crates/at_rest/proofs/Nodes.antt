@@ -171,6 +171,7 @@ module _ {w : ℕ → ℕ → ℤ} {D nx ny : ℕ} {p : Particle} (placed : Plac
         bxy = (no-affine placed on-x alongY ∙ sym (still .bxy)) t;
         byx = (no-affine placed on-y alongX ∙ sym (still .byx)) t;
         byy = (no-affine placed on-y alongY ∙ sym (still .byy)) t;
+        marks = p .marks;
       }
     where
       stays : (x : ℕ) {v : ℤ} → v ≡ pos 0 → natAbs (pos x +ℤ v) ≡ x

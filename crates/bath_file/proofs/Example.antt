@@ -1,6 +1,6 @@
 -- Examples of the definitions.
---     reads, writes      document 01's worked input, "The program", with document 02's two bytes more: the file is accepted, and its
---                        header is 4 by 4 nodes, no gravity, one record, one step, open edges and no drag
+--     reads, writes      document 01's worked input, "The program", with document 02's two bytes more in the header and one at the end:
+--                        the file is accepted, and its header is 4 by 4 nodes, no gravity, one record, one step, open edges and no drag
 --     each-its-own       a header in which every field holds another number
 --     first-read, first-written     where several limits are broken, the first of the list is told
 --     still-there        a header that is not written leaves the buffer as it was
@@ -20,7 +20,7 @@ bytes : List ℕ
 bytes = 0x10 ∷ 0x40 ∷ 0x00 ∷ 0x00 ∷ 0x00 ∷ 0x00 ∷ 0x08 ∷ 0x00 ∷ 0x20 ∷ 0x00 ∷ 0x00 ∷ []
 
 file : List ℕ
-file = bytes ++ 0x00 ∷ 0x07 ∷ 0x00 ∷ 0x81 ∷ 0x00 ∷ 0x10 ∷ 0x01 ∷ 0xfe ∷ 0x00 ∷ 0x00 ∷ 0x00 ∷ 0x00 ∷ 0x00 ∷ 0x00 ∷ []
+file = bytes ++ 0x00 ∷ 0x07 ∷ 0x00 ∷ 0x81 ∷ 0x00 ∷ 0x10 ∷ 0x01 ∷ 0xfe ∷ 0x00 ∷ 0x00 ∷ 0x00 ∷ 0x00 ∷ 0x00 ∷ 0x00 ∷ 0x00 ∷ []
 
 header : Header
 header =

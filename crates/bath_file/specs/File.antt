@@ -1,5 +1,5 @@
--- Documents 01, "Read a file", and 02, Paper 1: its answer for any bytes; and writing a header: its answer, and the buffer that it
--- leaves.
+-- Documents 01, "Read a file", and 02, Papers 1 and 6: its answer for any bytes; and writing a header: its answer, and the buffer
+-- that it leaves.
 -- Assumes nothing.
 use Prim.Native.Nat.{ℕ, _+_, _*_, _≤_}
 use mathlib.Core.Bool.{Bool, not, _&&_}

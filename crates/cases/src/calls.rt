@@ -10,6 +10,8 @@ use lines::print;
 use lines::words::integer;
 use lines::words::natural;
 use lines::words::size;
+use particle::NUMBERS;
+use totals::SUMS;
 
 fn weights() {
     let mut values = [7; 3];
@@ -18,7 +20,7 @@ fn weights() {
 }
 
 fn read_record(bytes: &[u8]) {
-    let mut values = [7; 10];
+    let mut values = [7; NUMBERS];
     print::answer(gondwize::gondwize_read_record(bytes, &mut values));
     print::fields(&values);
 }
@@ -35,6 +37,7 @@ fn write_record(bytes: &mut [u8]) {
         integer(),
         integer(),
         integer(),
+        (natural() % 256) as u8,
         bytes,
     );
     records::after(code, bytes);
@@ -47,7 +50,7 @@ fn check_set(bytes: &[u8]) {
 }
 
 fn totals(bytes: &[u8]) {
-    let mut values = [7; 5];
+    let mut values = [7; SUMS];
     print::answer(gondwize::gondwize_totals(size(), size(), bytes, &mut values));
     print::totals(&values);
 }

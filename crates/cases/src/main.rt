@@ -5,9 +5,11 @@ mod names;
 mod records;
 
 use lines::words;
+use particle::RECORD_LENGTH;
+use particles::SET_LENGTH;
 
 // Room for one record more than a set may have.
-const BYTES: usize = 57358;
+const BYTES: usize = SET_LENGTH + RECORD_LENGTH;
 
 // The most lines of an input.
 const MOST_LINES: u32 = 65536;

@@ -1,10 +1,11 @@
 // The records as a call left them.
 use lines::print;
-use lines::records::RECORD_LENGTH;
+use particle::NUMBERS;
+use particle::RECORD_LENGTH;
 
 // A record's fields, or its bytes if it cannot be read.
 fn one(record: &[u8]) {
-    let mut fields = [0; 10];
+    let mut fields = [0; NUMBERS];
     if gondwize::gondwize_read_record(record, &mut fields) == 0 {
         print::fields(&fields);
     } else {

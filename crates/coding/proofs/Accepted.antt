@@ -1,27 +1,16 @@
--- The values of accepted sets and headers are small. Assumes nothing.
-use mathlib.Core.Path.{_≡_, sym, _∙_, ap, subst}
+-- The values of accepted headers are small. Assumes nothing.
+use mathlib.Core.Path.{_≡_, sym, _∙_}
 use mathlib.Core.List.{List}
-use Prim.Native.Nat.{ℕ, _≤_}
+use Prim.Native.Nat.{ℕ}
 use native.Mathlib.Omega.{arith}
 use Rattle.refusal.specs.Refused.{Answer, result}
-use Rattle.refusal.proofs.Answers.{same-result, went-on}
-use Rattle.limits.specs.Limits.{mostTotalMass}
-use Rattle.totals.specs.declared.Totals.{Totals}
-use Rattle.particles.specs.Set.{setAnswer}
-use Rattle.totals.specs.Totals.{totalsAnswer, totalsOf}
 use Rattle.particles.proofs.Checks.{size-limits}
-use Rattle.particles.proofs.Accepted.{accepted-limits}
 use Rattle.bath_file.specs.declared.Header.{Header}
 use Rattle.bath_file.specs.File.{fileAnswer}
 use Rattle.bath_file.proofs.Checks.{edge-limits}
 use Rattle.bath_file.proofs.Answers.{header-held}
 use Rattle.bath_file.proofs.Records.{file-held}
 use Rattle.wide.specs.Internal.{Narrow}
-
-pub light : (nx ny : ℕ) (bytes : List ℕ) {told : Answer Totals} {t : Totals} → told ≡ totalsAnswer nx ny bytes → told ≡ result t → t .mass ≤ mostTotalMass
-light nx ny bytes is by =
-    let s = went-on (setAnswer nx ny bytes) (λ ps. result (totalsOf ps)) (sym is ∙ by) in
-    subst (λ m. m ≤ mostTotalMass) (ap (λ t. t .mass) (same-result (s .2))) (accepted-limits nx ny bytes (s .1) .mass)
 
 pub narrow : (bytes : List ℕ) {told : Answer Header} {h : Header} → told ≡ fileAnswer bytes → told ≡ result h → Narrow h
 narrow bytes {h = h} is by =

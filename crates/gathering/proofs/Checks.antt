@@ -1,5 +1,6 @@
 -- The checks of moved records.
 --     check-follow, checks-follow, checks-append     records that pass leave the answer to what follows
+--     checks-result              checks that end in a result: all passed, and it is what follows
 --     refused-at                 a record is refused at its own index
 --     Checked, checked           what is known of numbers that pass
 --     Passed, passed             and of a record that passes
@@ -52,6 +53,14 @@ checks-follow nx ny move k (p ∷ ps) rest =
     ∙ ap (follow (moveCheck nx ny p (move p) k (result tt))) (checks-follow nx ny move (suc k) ps rest)
     ∙ sym (follow-follow (moveCheck nx ny p (move p) k (result tt)) (moveChecks nx ny move (suc k) ps (result tt)) rest)
     ∙ ap (λ a. follow a rest) (sym (check-follow nx ny p (move p) k (moveChecks nx ny move (suc k) ps (result tt))))
+
+followed : {A : Type 0} (a : Answer (Unit {0})) (b c : A) → follow a (result b) ≡ result c → (a ≡ result tt) × (b ≡ c)
+followed (result u) b c e = (refl, answers.same-result e)
+followed (refused n k) b c e = answers.not-result e
+
+pub checks-result : {A : Type 0} (nx ny : ℕ) (move : Particle → Particle) (k : ℕ) (ps : List Particle) (b : A) {c : A} → moveChecks nx ny move k ps (result b) ≡ result c → (moveChecks nx ny move k ps (result (tt {0})) ≡ result tt) × (b ≡ c)
+checks-result nx ny move k ps b {c} e =
+    followed (moveChecks nx ny move k ps (result tt)) b c (sym (checks-follow nx ny move k ps (result b)) ∙ e)
 
 pub checks-append : {A : Type 0} (nx ny : ℕ) (move : Particle → Particle) (k : ℕ) (ps qs : List Particle) (rest : Answer A) → moveChecks nx ny move k (ps ++ qs) rest ≡ moveChecks nx ny move k ps (moveChecks nx ny move (k + length ps) qs rest)
 unfolding moveChecks

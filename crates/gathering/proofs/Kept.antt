@@ -50,6 +50,7 @@ module _ (w : ℕ → ℕ → ℤ) (nx ny : ℕ) (ux uy : List ℤ) where
         byy = h .byy;
         x-on = h .x .1;
         y-on = h .y .1;
+        marks = l .marks;
       }
 
   each-kept : (k : ℕ) (ps : List Particle) → Each (ParticleLimits nx ny) ps → moveChecks {A = Unit {0}} nx ny (gathered w nx ny ux uy) k ps (result tt) ≡ result tt → Each (ParticleLimits nx ny) (map (gathered w nx ny ux uy) ps)

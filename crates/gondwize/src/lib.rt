@@ -16,7 +16,7 @@ use wide::answer;
 ghost use mathlib.Core.Path.{_≡_};
 ghost use Rattle.particle.specs.Record.{numbers, readAnswer, writeAnswer, written};
 ghost use Rattle.particles.specs.Set.{checkAnswer};
-ghost use Rattle.totals.specs.Totals.{totalsAnswer};
+ghost use Rattle.totals.specs.Totals.{totalsAnswer, sums};
 ghost use Rattle.spline.specs.Answers.{weightsAnswer};
 ghost use Rattle.transfer.specs.Transfer.{ScatterIs, GatherIs};
 ghost use Rattle.adding.specs.Adding.{AddingIs};
@@ -25,12 +25,12 @@ ghost use Rattle.apic.specs.Step.{gridsOf};
 ghost use Rattle.simulation.specs.Step.{Sees, stepAfter};
 ghost use Rattle.bath_file.specs.File.{fileAnswer};
 ghost use Rattle.bath_file.specs.File as file;
-ghost use Rattle.wide.specs.Values.{weightValues, sums, settings, particleWith, headerWith};
+ghost use Rattle.wide.specs.Values.{weightValues, settings, particleWith, headerWith};
 ghost use Rattle.coding.specs.Coded.{coded, Gives, Tells};
 ghost use Rattle.settings.specs.Settings.{settingsWith};
 ghost use Rattle.coding.specs.Runs.{RunTells};
 
-// Read a record: ten values.
+// Read a record: eleven values.
 #[no_mangle]
 pub extern "C" fn gondwize_read_record(bytes: &[u8], values: &mut [i64; NUMBERS]) -> u64
     ensures { λ r. ⌜ Gives (readAnswer 0 (now (bytes .entry))) numbers (now (values .entry)) r (now (values .exit)) ⌝ }
@@ -57,12 +57,13 @@ pub extern "C" fn gondwize_write_record(
     bxy: i64,
     byx: i64,
     byy: i64,
+    marks: u8,
     bytes: &mut [u8],
 ) -> u64
-    ensures answer { λ r. ⌜ r ≡ coded (writeAnswer (particleWith identifier mass x y vx vy bxx bxy byx byy) (now (bytes .entry))) ⌝ }
-    ensures buffer { λ _. ⌜ now (bytes .exit) ≡ written (particleWith identifier mass x y vx vy bxx bxy byx byy) (now (bytes .entry)) ⌝ }
+    ensures answer { λ r. ⌜ r ≡ coded (writeAnswer (particleWith identifier mass x y vx vy bxx bxy byx byy marks) (now (bytes .entry))) ⌝ }
+    ensures buffer { λ _. ⌜ now (bytes .exit) ≡ written (particleWith identifier mass x y vx vy bxx bxy byx byy marks) (now (bytes .entry)) ⌝ }
 {
-    let p = wide::particle(identifier, mass, x, y, vx, vy, bxx, bxy, byx, byy);
+    let p = wide::particle(identifier, mass, x, y, vx, vy, bxx, bxy, byx, byy, marks);
     match record_writer::write_record(p, bytes) {
         Written::Refused(refusal) => answer::code(refusal),
         Written::Done => 0,
@@ -83,20 +84,20 @@ pub extern "C" fn gondwize_check_set(nx: usize, ny: usize, records: &[u8], count
     }
 }
 
-// Totals: five values.
+// Totals: six values.
 #[no_mangle]
 pub extern "C" fn gondwize_totals(
     nx: usize,
     ny: usize,
     records: &[u8],
-    values: &mut [i64; wide::SUMS],
+    values: &mut [i64; totals::SUMS],
 ) -> u64
     ensures { λ r. ⌜ Gives (totalsAnswer nx ny (now (records .entry))) sums (now (values .entry)) r (now (values .exit)) ⌝ }
 {
     match totals_set::set_totals(nx, ny, records) {
         Totalled::Refused(refusal) => answer::code(refusal),
         Totalled::Sums(t) => {
-            *values = wide::of_totals(t);
+            *values = totals_share::sums_of(t);
             0
         }
     }

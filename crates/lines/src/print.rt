@@ -5,6 +5,8 @@ use crate::words::MINUS;
 use crate::words::SPACE;
 use libc::STDOUT_FILENO;
 use numerals::magnitude;
+use particle::NUMBERS;
+use totals::SUMS;
 
 // What a refusal's number is multiplied by in an answer.
 const PLACES: u64 = 0x100000000;
@@ -80,7 +82,7 @@ pub fn weights(list: &[i64; 3]) {
     integers(b'v', list);
 }
 
-pub fn totals(list: &[i64; 5]) {
+pub fn totals(list: &[i64; SUMS]) {
     integers(b'v', list);
 }
 
@@ -88,7 +90,7 @@ pub fn header(list: &[i64; 9]) {
     integers(b'v', list);
 }
 
-pub fn fields(list: &[i64; 10]) {
+pub fn fields(list: &[i64; NUMBERS]) {
     integers(b'r', list);
 }
 

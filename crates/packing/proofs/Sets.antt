@@ -1,5 +1,5 @@
 -- Particle sets on their way out.
---     named                          a particle under another identifier has the same numbers, and is as valid
+--     relabelled                     a particle with another label has the same numbers, and is as valid
 --     packable-at                    the particles of an array, one by one
 --     Packed, packed-start, packed-next, packed-end
 --                                    the loop of `pack_set`: the first k records are written, and the others as they were
@@ -15,22 +15,22 @@ use lib.IntN.{ℤ}
 use Rattle.particle.specs.declared.Particle.{Particle}
 use Rattle.particle.specs.Layout.{recordLength}
 use Rattle.particle.specs.Layout as field
-use Rattle.particle.specs.Record.{particleOf, recordOf, Valid}
+use Rattle.particle.specs.Record.{label, particleOf, recordOf, Valid}
 use Rattle.particles.specs.Set.{recordCount, recordsOf, particleIn, particlesIn}
 use Rattle.particles.proofs.Accepted.{particle-valid}
 use Rattle.unpacked.specs.Unpacked.{perParticle, unpacked, NumbersAt}
 use Rattle.arith.specs.Lists.{placed, placed-length}
 use Rattle.unpacked.proofs.Laws.{length-unpacked, numbers-at, some-at, nobody}
-use Rattle.packing.specs.Packing.{Packable, Packs, identifiers}
+use Rattle.packing.specs.Packing.{Packable, Packs, labels}
 use Rattle.packing.specs.Internal.{PackableAt, PacksAt}
 use Rattle.unpacking.proofs.Filling.{Filled, record-parts, part-fits, part-behind, filled-start, filled-next, filled-end}
 use Rattle.unpacking.proofs.Sets.{in-at}
 
--- the particle under another identifier
-abbrev pub named : ℕ → Particle → Particle
-named identifier p =
+-- the particle with another label
+abbrev pub relabelled : ℕ × ℕ → Particle → Particle
+relabelled l p =
     record {
-      identifier = identifier;
+      identifier = l .0;
       mass = p .mass;
       x = p .x;
       y = p .y;
@@ -40,11 +40,12 @@ named identifier p =
       bxy = p .bxy;
       byx = p .byx;
       byy = p .byy;
+      marks = l .1;
     }
 
-module _ (identifier : ℕ) where
-  pub named-at : {l : List ℤ} {k : ℕ} {p : Particle} → NumbersAt l k p → NumbersAt l k (named identifier p)
-  named-at n =
+module _ (other : ℕ × ℕ) where
+  pub relabelled-at : {l : List ℤ} {k : ℕ} {p : Particle} → NumbersAt l k p → NumbersAt l k (relabelled other p)
+  relabelled-at n =
       record {
         mass = n .mass;
         x = n .x;
@@ -57,8 +58,8 @@ module _ (identifier : ℕ) where
         byy = n .byy;
       }
 
-  pub named-valid : {p : Particle} → Valid p → Valid (named identifier p)
-  named-valid v =
+  pub relabelled-valid : {p : Particle} → Valid p → Valid (relabelled other p)
+  relabelled-valid v =
       record {
         mass-from = v .mass-from;
         mass-to = v .mass-to;
@@ -83,7 +84,7 @@ packable-at p k h =
 pub record Packed (l : List ℤ) (records₀ records : List ℕ) (k : ℕ) : Type 0 where
   pub long : length records ≡ length records₀
   pub behind : drop (recordLength * k) records ≡ drop (recordLength * k) records₀
-  pub done : (ps : List Particle) → l ≡ unpacked ps → identifiers ps ≡ identifiers (particlesIn records₀) → Filled recordLength recordsOf ps records k
+  pub done : (ps : List Particle) → l ≡ unpacked ps → labels ps ≡ labels (particlesIn records₀) → Filled recordLength recordsOf ps records k
 
 count-unpacked : (l : List ℤ) (ps : List Particle) → l ≡ unpacked ps → length l / perParticle ≡ length ps
 count-unpacked l ps is = omega (arith, ap length is ∙ length-unpacked ps)
@@ -106,8 +107,8 @@ module _ {l : List ℤ} {records₀ records : List ℕ} {k : ℕ} (w : Packed l 
 
   pub packed-next : {records′ : List ℕ} → PackableAt l k → recordLength * k + recordLength ≤ length records → k < length l / perParticle → PacksAt l k records records′ → Packed l records₀ records′ (k + 1)
   packed-next {records′} at room below packs =
-      let q = named (particleIn records k .identifier) (at .readable .particle) in
-      let e : records′ ≡ placed records (recordLength * k) (recordOf q) = packs q (named-at (particleIn records k .identifier) (at .readable .numbers)) refl in
+      let q = relabelled (label (particleIn records k)) (at .readable .particle) in
+      let e : records′ ≡ placed records (recordLength * k) (recordOf q) = packs q (relabelled-at (label (particleIn records k)) (at .readable .numbers)) refl in
       record {
         long = ap length e ∙ placed-length records (recordLength * k) (recordOf q) (part-fits record-parts k records q room) ∙ w .long;
         behind = ap (drop (recordLength * (k + 1))) e ∙ part-behind record-parts k records q room ∙ further (w .behind);
@@ -115,7 +116,7 @@ module _ {l : List ℤ} {records₀ records : List ℕ} {k : ℕ} (w : Packed l 
             let here = subst (λ n. k < n) (count-unpacked l ps is) below in
             let p = getD ps k nobody in
             filled-next record-parts (w .done ps is same) nobody here refl
-            (packs p (subst (λ m. NumbersAt m k p) (sym is) (numbers-at ps k nobody here)) (same-identifier ps same));
+            (packs p (subst (λ m. NumbersAt m k p) (sym is) (numbers-at ps k nobody here)) (same-label ps same));
       }
     where
       next : recordLength * (k + 1) ≡ recordLength * k + recordLength
@@ -132,12 +133,12 @@ module _ {l : List ℤ} {records₀ records : List ℕ} {k : ℕ} (w : Packed l 
       inside : k < recordCount records₀
       inside = omega (arith, w .long)
 
-      same-identifier : (ps : List Particle) → identifiers ps ≡ identifiers (particlesIn records₀) → getD ps k nobody .identifier ≡ particleIn records k .identifier
-      same-identifier ps same =
-          sym (List·getD-map (λ p. p .identifier) ps k nobody)
-          ∙ ap (λ l. getD l k 0) same
-          ∙ List·getD-map (λ p. p .identifier) (particlesIn records₀) k nobody
-          ∙ ap (λ p. p .identifier) (in-at records₀ k nobody inside ∙ sym next-in)
+      same-label : (ps : List Particle) → labels ps ≡ labels (particlesIn records₀) → label (getD ps k nobody) ≡ label (particleIn records k)
+      same-label ps same =
+          sym (List·getD-map label ps k nobody)
+          ∙ ap (λ l. getD l k (label nobody)) same
+          ∙ List·getD-map label (particlesIn records₀) k nobody
+          ∙ ap label (in-at records₀ k nobody inside ∙ sym next-in)
 
   pub packed-end : length l / perParticle ≤ k → Packs l records₀ records
   packed-end h ps is same = filled-end record-parts (w .done ps is same) (subst (λ n. n ≤ k) (count-unpacked l ps is) h)

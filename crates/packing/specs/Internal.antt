@@ -7,7 +7,7 @@ use lib.IntN.{ℤ}
 use Rattle.arith.specs.Lists.{placed}
 use Rattle.particle.specs.declared.Particle.{Particle}
 use Rattle.particle.specs.Layout.{recordLength}
-use Rattle.particle.specs.Record.{recordOf, Valid}
+use Rattle.particle.specs.Record.{label, recordOf, Valid}
 use Rattle.particles.specs.Set.{particleIn}
 use Rattle.unpacked.specs.Unpacked.{NumbersAt, ReadableAt}
 
@@ -16,7 +16,7 @@ pub record PackableAt (l : List ℤ) (k : ℕ) : Type 0 where
   pub readable : ReadableAt l k
   pub valid : Valid (readable .particle)
 
--- record k holds the particle at place k, under the identifier that it had; the others are as they were
+-- record k holds the particle at place k, with the identifier and the marks that it had; the others are as they were
 abbrev pub PacksAt : List ℤ → ℕ → List ℕ → List ℕ → Type 0
 PacksAt l k records records′ =
-    (p : Particle) → NumbersAt l k p → p .identifier ≡ particleIn records k .identifier → records′ ≡ placed records (recordLength * k) (recordOf p)
+    (p : Particle) → NumbersAt l k p → label p ≡ label (particleIn records k) → records′ ≡ placed records (recordLength * k) (recordOf p)

@@ -4,6 +4,7 @@ use mathlib.Core.List.{List, map}
 use Prim.Native.Nat.{ℕ}
 use lib.IntN.{ℤ}
 use Rattle.particle.specs.declared.Particle.{Particle}
+use Rattle.particle.specs.Record.{label}
 use Rattle.particles.specs.Set.{recordsOf, particlesIn}
 use Rattle.unpacked.specs.Unpacked.{unpacked, UnpackedSet}
 
@@ -13,10 +14,10 @@ pub record Packable (l : List ℤ) : Type 0 where
   pub ny : ℕ
   pub set : UnpackedSet nx ny l
 
-abbrev pub identifiers : List Particle → List ℕ
-identifiers ps = map (λ p. p .identifier) ps
+abbrev pub labels : List Particle → List (ℕ × ℕ)
+labels ps = map label ps
 
--- the records of the array's particles, under the identifiers that the records had
+-- the records of the array's particles, with the identifiers and marks that the records had
 abbrev pub Packs : List ℤ → List ℕ → List ℕ → Type 0
 Packs l records records′ =
-    (ps : List Particle) → l ≡ unpacked ps → identifiers ps ≡ identifiers (particlesIn records) → records′ ≡ recordsOf ps
+    (ps : List Particle) → l ≡ unpacked ps → labels ps ≡ labels (particlesIn records) → records′ ≡ recordsOf ps

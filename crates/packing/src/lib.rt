@@ -1,5 +1,5 @@
-// An array of numbers back into a particle set's records. Identifiers stay in the records: whoever packs a set packs it into the
-// records that it was unpacked from.
+// An array of numbers back into a particle set's records. Identifiers and marks stay in the records: whoever packs a set packs
+// it into the records that it was unpacked from.
 use limits::MOST_RECORDS;
 use particle::RECORD_LENGTH;
 use unpacked::NUMBERS;
@@ -14,14 +14,14 @@ ghost use Rattle.packing.specs.Internal.{PackableAt, PacksAt};
 // How many numbers the largest set has.
 pub const SET_NUMBERS: usize = MOST_RECORDS * NUMBERS;
 
-// One turn of `pack_set`: the particle goes to the record writer, under the identifier that its record holds.
+// One turn of `pack_set`: the particle goes to the record writer, with the identifier and the marks that its record holds.
 fn pack_particle(array: &[i16], k: usize, records: &mut [u8])
     requires { ⌜ PackableAt (now array) k × (recordLength * k + recordLength ≤ length (now records)) ⌝ }
     ensures { λ _. ⌜ PacksAt (now (array .entry)) k (now (records .entry)) (now (records .exit)) ⌝ }
 {
     let at = RECORD_LENGTH * k;
     let old = unpacking::particle_in(records, k);
-    let p = unpacked::particle_at(array, k, old.identifier);
+    let p = unpacked::particle_at(array, k, old.identifier, old.marks);
     record_writer::pack(p, &mut records[at..at + RECORD_LENGTH]);
 }
 

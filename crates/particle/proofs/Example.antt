@@ -13,7 +13,7 @@ use Rattle.particle.specs.declared.Particle.{Particle}
 use Rattle.particle.specs.Record.{particleOf, readParticle, readAnswer, recordOf, writeParticle, writeAnswer, written}
 
 bytes : List ℕ
-bytes = 0x00 ∷ 0x07 ∷ 0x00 ∷ 0x81 ∷ 0x00 ∷ 0x10 ∷ 0x01 ∷ 0xfe ∷ 0x00 ∷ 0x00 ∷ 0x00 ∷ 0x00 ∷ 0x00 ∷ 0x00 ∷ []
+bytes = 0x00 ∷ 0x07 ∷ 0x00 ∷ 0x81 ∷ 0x00 ∷ 0x10 ∷ 0x01 ∷ 0xfe ∷ 0x00 ∷ 0x00 ∷ 0x00 ∷ 0x00 ∷ 0x00 ∷ 0x00 ∷ 0x00 ∷ []
 
 particle : Particle
 particle =
@@ -28,6 +28,7 @@ particle =
       bxy = pos 0;
       byx = pos 0;
       byy = pos 0;
+      marks = 0;
     }
 
 reads : readAnswer 0 bytes ≡ result particle
@@ -53,10 +54,11 @@ distinct =
       bxy = negℤ (pos 8);
       byx = pos 9;
       byy = negℤ (pos 10);
+      marks = 11;
     }
 
 distinct-bytes : List ℕ
-distinct-bytes = 0x00 ∷ 0x01 ∷ 0x00 ∷ 0x80 ∷ 0x0c ∷ 0x01 ∷ 0x02 ∷ 0xfa ∷ 0x00 ∷ 0x7f ∷ 0xf8 ∷ 0x00 ∷ 0x9f ∷ 0xf6 ∷ []
+distinct-bytes = 0x00 ∷ 0x01 ∷ 0x00 ∷ 0x80 ∷ 0x0c ∷ 0x01 ∷ 0x02 ∷ 0xfa ∷ 0x00 ∷ 0x7f ∷ 0xf8 ∷ 0x00 ∷ 0x9f ∷ 0xf6 ∷ 0x0b ∷ []
 
 each-its-own : (readAnswer 0 distinct-bytes ≡ result distinct) × (recordOf distinct ≡ distinct-bytes)
 unfolding distinct distinct-bytes readAnswer readParticle particleOf recordOf
@@ -77,6 +79,7 @@ breaking mass =
       bxy = pos 0;
       byx = pos 0;
       byy = negℤ (pos 2048);
+      marks = 0;
     }
 
 first-refusal : (readParticle 3 (breaking 0) ≡ refused 4 3) × (readParticle 3 (breaking 1) ≡ refused 5 3)

@@ -25,9 +25,10 @@ pub record Typed (p : Particle) : Type 0 where
   pub bxy : mag (p .bxy) < 2 ^ 15
   pub byx : mag (p .byx) < 2 ^ 15
   pub byy : mag (p .byy) < 2 ^ 15
+  pub marks : p .marks < 2 ^ 8
 
 pub typed : (p : Particle) → Told p → Typed p
-typed p (identifier, (mass, (x, (y, (vx, (vy, (bxx, (bxy, (byx, (byy, end)))))))))) =
+typed p (identifier, (mass, (x, (y, (vx, (vy, (bxx, (bxy, (byx, (byy, (marks, end))))))))))) =
     record {
       identifier = identifier .1;
       mass = mass .1;
@@ -39,4 +40,5 @@ typed p (identifier, (mass, (x, (y, (vx, (vy, (bxx, (bxy, (byx, (byy, end)))))))
       bxy = bxy .1;
       byx = byx .1;
       byy = byy .1;
+      marks = marks .1;
     }

@@ -26,7 +26,7 @@ use Rattle.bits.proofs.Layouts.{CanHold, Proper, fieldOf, filled-length, filled
 use Rattle.bits.proofs.Parts.{bytes-below}
 use Rattle.bits.proofs.TwosComplement.{mag-le}
 use Rattle.particle.specs.declared.Particle.{Particle}
-use Rattle.particle.specs.Layout.{Name, identifier, mass, x, y, vx, vy, Bxx, Bxy, Byx, Byy, layout, recordLength, held}
+use Rattle.particle.specs.Layout.{Name, identifier, mass, x, y, vx, vy, Bxx, Bxy, Byx, Byy, marks, layout, recordLength, held}
 use Rattle.particle.specs.Record.{particleOf, valueIn, recordOf, lowestVelocity, lowestAffine, readParticle, readAnswer, writeParticle, writeAnswer, written, Valid}
 use Rattle.particle.proofs.Valid.{write-valid, valid-write}
 use Rattle.particle.proofs.Writing.{after, judged, allowed}
@@ -57,6 +57,7 @@ proper = record { whole = refl; distinct-names = tt; each-named = named }
     named Bxy = refl
     named Byx = refl
     named Byy = refl
+    named marks = refl
 
 neither : (a b : Bool) → (a || b) ≡ false → (a ≡ false) × (b ≡ false)
 neither false b e = (refl, e)
@@ -71,6 +72,7 @@ pub record Held (bytes : List ℕ) (p : Particle) : Type 0 where
   pub holds : particleOf bytes ≡ p
   pub valid : Valid p
   pub identifier-below : p .identifier < 65536
+  pub marks-below : p .marks < 256
 
 pub read-held : (k : ℕ) (bytes : List ℕ) (p : Particle) → readAnswer k bytes ≡ result p → Held bytes p
 unfolding readAnswer readParticle particleOf
@@ -106,6 +108,7 @@ read-held k bytes p e =
       holds = same;
       valid = subst Valid same valid;
       identifier-below = subst (λ r. r .identifier < 65536) same (d identifier);
+      marks-below = subst (λ r. r .marks < 256) same (d marks);
     }
 
 -- ---- read, then write
@@ -125,6 +128,7 @@ record-of-held bytes b = packed-held proper bytes (valueIn (particleOf bytes)) b
     same Bxy = refl
     same Byx = refl
     same Byy = refl
+    same marks = refl
 
 module _ (k : ℕ) (bytes : List ℕ) (p : Particle) (small : (i : ℕ) → getD bytes i 0 < 256) (found : readAnswer k bytes ≡ result p) where
   pub record-of-read : recordOf p ≡ bytes
@@ -140,9 +144,9 @@ module _ (k : ℕ) (bytes : List ℕ) (p : Particle) (small : (i : ℕ) → getD
 
 -- ---- write, then read
 
-module _ (p : Particle) (fits : p .identifier < 65536) (valid : Valid p) where
+module _ (p : Particle) (identified : p .identifier < 65536) (marked : p .marks < 256) (valid : Valid p) where
   holds : (a : Name) → CanHold layout a (valueIn p a)
-  holds identifier = fits
+  holds identifier = identified
   holds mass = omega (arith, valid .mass-to)
   holds x = omega (arith, valid .x-to)
   holds y = omega (arith, valid .y-to)
@@ -152,6 +156,7 @@ module _ (p : Particle) (fits : p .identifier < 65536) (valid : Valid p) where
   holds Bxy = omega (arith, mag-le (p .bxy), valid .bxy-to)
   holds Byx = omega (arith, mag-le (p .byx), valid .byx-to)
   holds Byy = omega (arith, mag-le (p .byy), valid .byy-to)
+  holds marks = marked
 
   pub particle-of-record : particleOf (recordOf p) ≡ p
   unfolding particleOf recordOf
@@ -169,6 +174,7 @@ module _ (p : Particle) (fits : p .identifier < 65536) (valid : Valid p) where
         bxy = again Bxy i;
         byx = again Byx i;
         byy = again Byy i;
+        marks = natAbs (again marks i);
       }
 
   accepted : (k : ℕ) → readParticle k p ≡ result p
@@ -189,8 +195,8 @@ module _ (p : Particle) (fits : p .identifier < 65536) (valid : Valid p) where
   read-of-valid k =
       simp (eq-eqb (length (recordOf p)) recordLength (record-length p)) (ap (readParticle k) particle-of-record ∙ accepted k)
 
-pub read-of-record : (k : ℕ) (p : Particle) → p .identifier < 65536 → writeParticle p ≡ result tt → readAnswer k (recordOf p) ≡ result p
-read-of-record k p fits e = read-of-valid p fits (write-valid p e) k
+pub read-of-record : (k : ℕ) (p : Particle) → p .identifier < 65536 → p .marks < 256 → writeParticle p ≡ result tt → readAnswer k (recordOf p) ≡ result p
+read-of-record k p identified marked e = read-of-valid p identified marked (write-valid p e) k
 
-pub write-read : (k : ℕ) (p : Particle) (buffer : List ℕ) → p .identifier < 65536 → writeAnswer p buffer ≡ result tt → readAnswer k (written p buffer) ≡ result p
-write-read k p buffer fits done = ap (readAnswer k) (after p buffer done) ∙ read-of-record k p fits (allowed p buffer done .1)
+pub write-read : (k : ℕ) (p : Particle) (buffer : List ℕ) → p .identifier < 65536 → p .marks < 256 → writeAnswer p buffer ≡ result tt → readAnswer k (written p buffer) ≡ result p
+write-read k p buffer identified marked done = ap (readAnswer k) (after p buffer done) ∙ read-of-record k p identified marked (allowed p buffer done .1)

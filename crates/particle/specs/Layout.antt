@@ -1,4 +1,5 @@
--- The layout of a particle record: one table of its fields, in document 01's order ("Records"), most significant bit first.
+-- The layout of a particle record: one table of its fields, in document 01's order ("Records") with document 02's marks
+-- behind them, most significant bit first.
 --     Name            the fields' names
 --     recordLength    the length of a record in bytes
 --     layout          the table
@@ -21,6 +22,7 @@ pub data Name : Type 0 where
   Bxy : Name
   Byx : Name
   Byy : Name
+  marks : Name
 
 abbrev pub code : Name → ℕ
 code identifier = 0
@@ -33,9 +35,10 @@ code Bxx = 6
 code Bxy = 7
 code Byx = 8
 code Byy = 9
+code marks = 10
 
 abbrev pub recordLength : ℕ
-recordLength = 14
+recordLength = 15
 
 abbrev pub layout : Layout Name
 layout =
@@ -51,6 +54,7 @@ layout =
           ∷ field Bxy 12 signed
           ∷ field Byx 12 signed
           ∷ field Byy 12 signed
+          ∷ field marks 8 unsigned
           ∷ [];
       size = recordLength;
       code = code;

@@ -13,7 +13,7 @@ use Rattle.particle.specs.declared.Read.{Read}
 use Rattle.particle.specs.declared.Read.the-variants as read
 use Rattle.particle.specs.declared.Written.{Written}
 use Rattle.particle.specs.declared.Written.the-variants as write
-use Rattle.particle.specs.Layout.{Name, identifier, mass, x, y, vx, vy, Bxx, Bxy, Byx, Byy, recordLength, layout, held, packed}
+use Rattle.particle.specs.Layout.{Name, identifier, mass, x, y, vx, vy, Bxx, Bxy, Byx, Byy, marks, recordLength, layout, held, packed}
 
 -- the particle that a record of the right length holds
 unfoldable pub particleOf : List ℕ → Particle
@@ -29,6 +29,7 @@ particleOf bytes =
       bxy = held Bxy bytes;
       byx = held Byx bytes;
       byy = held Byy bytes;
+      marks = natAbs (held marks bytes);
     }
 
 abbrev pub valueIn : Particle → Name → ℤ
@@ -42,6 +43,11 @@ valueIn p Bxx = p .bxx
 valueIn p Bxy = p .bxy
 valueIn p Byx = p .byx
 valueIn p Byy = p .byy
+valueIn p marks = pos (p .marks)
+
+-- identifier and marks: no transfer reads them, and no step changes them
+abbrev pub label : Particle → ℕ × ℕ
+label p = (p .identifier, p .marks)
 
 -- the numbers of a particle, in the order of its record's fields
 abbrev pub numbers : Particle → List ℤ

@@ -2,10 +2,10 @@
 use refusal::Refusal;
 
 // The length of a particle record in bytes.
-pub const RECORD_LENGTH: usize = 14;
+pub const RECORD_LENGTH: usize = 15;
 
 // How many numbers a particle has.
-pub const NUMBERS: usize = 10;
+pub const NUMBERS: usize = 11;
 
 pub struct Particle {
     pub identifier: u16,
@@ -18,6 +18,7 @@ pub struct Particle {
     pub bxy: i16,
     pub byx: i16,
     pub byy: i16,
+    pub marks: u8,
 }
 
 pub enum Read {

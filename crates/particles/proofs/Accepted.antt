@@ -44,10 +44,10 @@ rising least [] r = tt
 rising least (p ∷ []) r = tt
 rising least (p ∷ q ∷ ps) r = (r .1 .0, rising (suc (p .identifier)) (q ∷ ps) (r .1))
 
-particle-limits : (nx ny least mass : ℕ) (p : Particle) → Valid p → p .identifier < 65536 → ParticlePasses nx ny least mass p → ParticleLimits nx ny p
-particle-limits nx ny least mass p v i a =
+particle-limits : (nx ny least mass : ℕ) (p : Particle) → Valid p → p .identifier < 65536 → p .marks < 256 → ParticlePasses nx ny least mass p → ParticleLimits nx ny p
+particle-limits nx ny least mass p v identified marked a =
     record {
-      identifier = i;
+      identifier = identified;
       mass-least = v .mass-from;
       mass-most = v .mass-to;
       vx = v .vx-to;
@@ -58,6 +58,7 @@ particle-limits nx ny least mass p v i a =
       byy = v .byy-to;
       x-on = a .on-x;
       y-on = a .on-y;
+      marks = marked;
     }
 
 record Within (nx ny least mass : ℕ) (ps : List Particle) : Type 0 where
@@ -76,7 +77,7 @@ module _ (nx ny start : ℕ) (bytes : List ℕ) where
       let w = walk-within left (suc k) (suc (t .head .identifier)) (mass + t .head .mass) (t .particle-passes .light) (t .rest) in
       subst (Within nx ny least mass) (t .is)
       (record {
-        each = (particle-limits nx ny least mass (t .head) (h .valid) (h .identifier-below) (t .particle-passes), w .each);
+        each = (particle-limits nx ny least mass (t .head) (h .valid) (h .identifier-below) (h .marks-below) (t .particle-passes), w .each);
         rises = (t .particle-passes .above, w .rises);
         light = regroup mass (t .head .mass) (totalMass (t .tail)) (w .light);
       })
@@ -178,7 +179,7 @@ module _ (nx ny : ℕ) where
   walk-back sizes pre (p ∷ ps) start k least mass n w =
       let further = walk-back sizes (pre ++ recordOf p) ps start (suc k) (suc (p .identifier)) (mass + p .mass) longer (record { each = w .each .1; rises = w .rises .1; light = regroup mass (p .mass) (totalMass ps) (w .light) }) in
       rw (
-        ap (readAnswer k) (first-record pre p (recordsOf ps) start k n) ∙ read-of-valid p (w .each .0 .identifier) (particle-valid p sizes (w .each .0)) k,
+        ap (readAnswer k) (first-record pre p (recordsOf ps) start k n) ∙ read-of-valid p (w .each .0 .identifier) (w .each .0 .marks) (particle-valid p sizes (w .each .0)) k,
         particle-passes k least mass p (w .each .0) (w .rises .0) (first mass (p .mass) (totalMass ps) (w .light)),
       )
       (ap (λ a. andThen a (λ qs. result (p ∷ qs))) (rw (append-assoc pre (recordOf p) (recordsOf ps)) at further))

@@ -6,6 +6,7 @@
 --     rest                   what is left from here on
 --     rest-none, rest-next, rest-refused      its laws: no record left, one checkedParticle, one refused
 --     Left                   that this is the whole, in a loop's invariant, with a law for each way on
+--     light-passed           the mass after a particle that passes is a set's
 --     Checking               the invariant of the check's loop, with the same laws
 -- Assumes nothing.
 use mathlib.Core.Path.{_≡_, refl, sym, ap, _∙_, subst}
@@ -177,14 +178,19 @@ pub record Checking (nx ny start : ℕ) (bytes : List ℕ) (count : ℕ) (e : En
   pub light : e .mass ≤ mostTotalMass
   pub left : Left (checking count) nx ny start bytes count (counted nx ny start bytes count) e k
 
+-- the mass after a particle that passes
+pub light-passed : (nx ny k : ℕ) (e : Entry) (p : Particle) {t : Entry} → checkParticle nx ny k e p ≡ result t → t .mass ≤ mostTotalMass
+light-passed nx ny k e p h =
+    let b = went-on (checkedParticle nx ny k (e .least) (e .mass) p) (λ q. result (followed e q)) h in
+    let facts = checked-facts nx ny k (e .least) (e .mass) p (b .1) in
+    subst (λ x. x .mass ≤ mostTotalMass) (same-result (b .2)) (subst (λ q. e .mass + q .mass ≤ mostTotalMass) (facts .0) (facts .1 .light))
+
 module _ (nx ny start : ℕ) (bytes : List ℕ) where
   -- the mass after a record that is checkedParticle
   light-after : (k : ℕ) (e : Entry) {t : Entry} → checkRecord nx ny start bytes k e ≡ result t → t .mass ≤ mostTotalMass
   light-after k e h =
       let a = went-on (readAnswer k (recordAt start bytes k)) (λ p. checkParticle nx ny k e p) h in
-      let b = went-on (checkedParticle nx ny k (e .least) (e .mass) (a .0)) (λ q. result (followed e q)) (a .2) in
-      let facts = checked-facts nx ny k (e .least) (e .mass) (a .0) (b .1) in
-      subst (λ x. x .mass ≤ mostTotalMass) (same-result (b .2)) (subst (λ q. e .mass + q .mass ≤ mostTotalMass) (facts .0) (facts .1 .light))
+      light-passed nx ny k e (a .0) (a .2)
 
   checks-all : (count : ℕ) → rest (checking count) nx ny start bytes count 0 start-of-check ≡ counted nx ny start bytes count
   unfolding rest

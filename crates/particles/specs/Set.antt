@@ -59,7 +59,7 @@ Bytes records = (i : ℕ) → getD records i 0 < 256
 abbrev pub validSize : ℕ → ℕ → Bool
 validSize nx ny = (leb leastSide nx && leb nx mostSide) && (leb leastSide ny && leb ny mostSide)
 
--- the length in bytes of the largest set
+-- the length in bytes of the largest set: 61,440
 abbrev pub setLength : ℕ
 setLength = recordLength * mostRecords
 

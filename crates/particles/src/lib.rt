@@ -19,7 +19,7 @@ ghost use Rattle.apic.specs.Limits.{SizeLimits};
 ghost use Rattle.particles.specs.Set.{checkAnswer, toldChecked, validSize, validLength};
 ghost use Rattle.particles.specs.Walk.{toldEntered, checkParticle, checkRecord, counted};
 
-// The length in bytes of the largest set.
+// The length in bytes of the largest set: 61,440.
 pub const SET_LENGTH: usize = RECORD_LENGTH * MOST_RECORDS;
 
 pub enum Checked {

@@ -23,7 +23,7 @@ pub fn unpack(bytes: &[u8]) -> Particle
     ensures { λ r. ⌜ r ≡ particleOf (now (bytes .entry)) ⌝ }
 {
     let first = bits::word(bytes, 0);
-    let second = bits::word(bytes, 6);
+    let second = bits::word(bytes, 7);
     Particle {
         identifier: bits::low(first / 281474976710656),
         mass: bits::low(first / 274877906944) % 1024,
@@ -31,10 +31,11 @@ pub fn unpack(bytes: &[u8]) -> Particle
         y: bits::low(first / 16384) % 4096,
         vx: bits::signed_low(bits::low(first / 128), 7),
         vy: bits::signed_low(bits::low(first), 7),
-        bxx: bits::signed_low(bits::low(second / 68719476736), 12),
-        bxy: bits::signed_low(bits::low(second / 16777216), 12),
-        byx: bits::signed_low(bits::low(second / 4096), 12),
-        byy: bits::signed_low(bits::low(second), 12),
+        bxx: bits::signed_low(bits::low(second / 17592186044416), 12),
+        bxy: bits::signed_low(bits::low(second / 4294967296), 12),
+        byx: bits::signed_low(bits::low(second / 1048576), 12),
+        byy: bits::signed_low(bits::low(second / 256), 12),
+        marks: (bits::low(second) % 256) as u8,
     }
 }
 
@@ -53,6 +54,7 @@ pub fn numbers_of(p: Particle) -> [i64; NUMBERS]
         p.bxy as i64,
         p.byx as i64,
         p.byy as i64,
+        p.marks as i64,
     ]
 }
 
@@ -66,10 +68,11 @@ fn check_read(p: Particle, index: usize) -> Read
     if limits::one_is(p.vx, p.vy, NO_VELOCITY) {
         return Read::Refused(Refusal::Velocity(index));
     }
-    if limits::one_is(p.bxx, p.bxy, NO_AFFINE) {
+    // B by its columns: what is compiled is shorter than by its rows.
+    if limits::one_is(p.bxx, p.byx, NO_AFFINE) {
         return Read::Refused(Refusal::Affine(index));
     }
-    if limits::one_is(p.byx, p.byy, NO_AFFINE) {
+    if limits::one_is(p.bxy, p.byy, NO_AFFINE) {
         return Read::Refused(Refusal::Affine(index));
     }
     Read::Found(p)

@@ -34,7 +34,7 @@ fn check_write(p: Particle) -> Written
     Written::Done
 }
 
-// Writes the record with these parts in its fields, as two words: the second starts with the first one's last two bytes. `pack`
+// Writes the record with these parts in its fields, as two words: the second starts with the first one's last byte. `pack`
 // calls it with parts that the fields hold.
 fn put(
     identifier: u16,
@@ -47,10 +47,11 @@ fn put(
     bxy: u16,
     byx: u16,
     byy: u16,
+    marks: u8,
     bytes: &mut [u8],
 )
-    requires { ⌜ Below (widths layout) (identifier ∷ mass ∷ x ∷ y ∷ vx ∷ vy ∷ bxx ∷ bxy ∷ byx ∷ byy ∷ []) × (length (now bytes) ≡ recordLength) ⌝ }
-    ensures { λ _. ⌜ now (bytes .exit) ≡ filled layout (identifier ∷ mass ∷ x ∷ y ∷ vx ∷ vy ∷ bxx ∷ bxy ∷ byx ∷ byy ∷ []) ⌝ }
+    requires { ⌜ Below (widths layout) (identifier ∷ mass ∷ x ∷ y ∷ vx ∷ vy ∷ bxx ∷ bxy ∷ byx ∷ byy ∷ marks ∷ []) × (length (now bytes) ≡ recordLength) ⌝ }
+    ensures { λ _. ⌜ now (bytes .exit) ≡ filled layout (identifier ∷ mass ∷ x ∷ y ∷ vx ∷ vy ∷ bxx ∷ bxy ∷ byx ∷ byy ∷ marks ∷ []) ⌝ }
 {
     let first = identifier as u64 * 281474976710656
         + mass as u64 * 274877906944
@@ -58,9 +59,13 @@ fn put(
         + y as u64 * 16384
         + vx as u64 * 128
         + vy as u64;
-    let second = bxx as u64 * 68719476736 + bxy as u64 * 16777216 + byx as u64 * 4096 + byy as u64;
-    // The first word takes the place of the second one's two highest bytes.
-    bits::put_word(second, bytes, 6);
+    let second = bxx as u64 * 17592186044416
+        + bxy as u64 * 4294967296
+        + byx as u64 * 1048576
+        + byy as u64 * 256
+        + marks as u64;
+    // The first word takes the place of the second one's highest byte.
+    bits::put_word(second, bytes, 7);
     bits::put_word(first, bytes, 0);
 }
 
@@ -87,6 +92,7 @@ pub fn pack(p: Particle, bytes: &mut [u8])
         bxy,
         byx,
         byy,
+        p.marks,
         bytes,
     );
 }

@@ -1,4 +1,4 @@
--- Every report fits the buffer: 36 bytes for a refused file's line, 62 and 128 for the first two lines of a run's, and the
+-- Every report fits the buffer: 36 bytes for a refused file's line, 62 and 155 for the first two lines of a run's, and the
 -- line's length for each record. Assumes nothing.
 use Prim.Native.Nat.{ℕ, zero, suc, _+_, _*_, _^_, _≤_, _<_}
 use native.Mathlib.Omega.{arith}
@@ -10,7 +10,7 @@ use lib.IntN.{ℤ, pos, negsuc, natAbs}
 use lib.Signed.{mag, natAbs-le}
 use lib.ListN.{length, length-append}
 use Rattle.arith.specs.Sums.{from, upTo}
-use Rattle.particle.specs.Layout.{identifier, mass, x, y, vx, vy, Bxx, Bxy, Byx, Byy}
+use Rattle.particle.specs.Layout.{identifier, mass, x, y, vx, vy, Bxx, Bxy, Byx, Byy, marks}
 use Rattle.particle.specs.Record.{particleOf, numbers}
 use Rattle.particle.proofs.RoundTrip.{fields-hold}
 use Rattle.totals.specs.declared.Totals.{Totals}
@@ -69,13 +69,13 @@ done-length c n k f h g =
 wide : (z : ℤ) → mag z < 2 ^ 63 → length (signed z) ≤ 20
 wide z h = signed-length 18 z (omega (arith, natAbs-le z h))
 
-totals-length : (t : Totals) → Typed t → length (totalsLine t) ≤ 128
+totals-length : (t : Totals) → Typed t → length (totalsLine t) ≤ 155
 unfolding totalsLine
 totals-length t f =
     line-length
-    (bytesOf "mass" ∷ decimal (t .mass) ∷ bytesOf "px" ∷ signed (t .px) ∷ bytesOf "py" ∷ signed (t .py) ∷ bytesOf "spin" ∷ signed (t .spin) ∷ bytesOf "motion" ∷ signed (t .motion) ∷ [])
-    (4 ∷ 20 ∷ 2 ∷ 20 ∷ 2 ∷ 20 ∷ 4 ∷ 20 ∷ 6 ∷ 20 ∷ [])
-    (lit≤ tt, (decimal-length 19 (t .mass) (omega (arith, f .mass)), (lit≤ tt, (wide (t .px) (f .px), (lit≤ tt, (wide (t .py) (f .py), (lit≤ tt, (wide (t .spin) (f .spin), (lit≤ tt, (wide (t .motion) (f .motion), tt))))))))))
+    (bytesOf "mass" ∷ signed (t .mass) ∷ bytesOf "px" ∷ signed (t .px) ∷ bytesOf "py" ∷ signed (t .py) ∷ bytesOf "spin" ∷ signed (t .spin) ∷ bytesOf "motion" ∷ signed (t .motion) ∷ bytesOf "marks" ∷ signed (t .marks) ∷ [])
+    (4 ∷ 20 ∷ 2 ∷ 20 ∷ 2 ∷ 20 ∷ 4 ∷ 20 ∷ 6 ∷ 20 ∷ 5 ∷ 20 ∷ [])
+    (lit≤ tt, (wide (t .mass) (f .mass), (lit≤ tt, (wide (t .px) (f .px), (lit≤ tt, (wide (t .py) (f .py), (lit≤ tt, (wide (t .spin) (f .spin), (lit≤ tt, (wide (t .motion) (f .motion), (lit≤ tt, (wide (t .marks) (f .marks), tt))))))))))))
 
 -- ---- records
 
@@ -92,7 +92,7 @@ particle-length bytes =
     let d = fields-hold bytes in
     rw (particle-numbers p)
     (line-length (map signed (numbers p))
-    (5 ∷ 4 ∷ 4 ∷ 4 ∷ 3 ∷ 3 ∷ 5 ∷ 5 ∷ 5 ∷ 5 ∷ []) (
+    (5 ∷ 4 ∷ 4 ∷ 4 ∷ 3 ∷ 3 ∷ 5 ∷ 5 ∷ 5 ∷ 5 ∷ 3 ∷ []) (
       decimal-length 4 (p .identifier) (omega (arith, d identifier)),
       (
         decimal-length 3 (p .mass) (omega (arith, d mass)),
@@ -112,7 +112,10 @@ particle-length bytes =
                       affine (p .byx) (d Byx),
                       (
                         affine (p .byy) (d Byy),
-                        tt,
+                        (
+                          decimal-length 2 (p .marks) (omega (arith, d marks)),
+                          tt,
+                        ),
                       ),
                     ),
                   ),

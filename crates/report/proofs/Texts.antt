@@ -2,11 +2,11 @@
 -- Assumes nothing.
 use Prim.Native.Nat.{ℕ}
 use mathlib.Core.Path.{_≡_, refl}
-use mathlib.Core.List.{List, [], _∷_, _++_, map, append-assoc}
-use lib.IntN.{ℤ}
+use mathlib.Core.List.{List, _++_, map, append-assoc}
 use Rattle.particle.specs.declared.Particle.{Particle}
 use Rattle.particle.specs.Record.{numbers}
 use Rattle.totals.specs.declared.Totals.{Totals}
+use Rattle.totals.specs.Totals.{sums}
 use Rattle.text.specs.Decimal.{bytesOf, space, lineFeed, signed}
 use Rattle.text.specs.Internal.{naturalText, filledIn}
 use Rattle.report.specs.Lines.{line, refusedLine, doneLine, totalsLine, particleLine}
@@ -21,16 +21,13 @@ done-text c n k = simp append-assoc
 
 -- ---- texts in which a question mark stands for a number
 
--- the sums behind the mass, by their names
+-- the sums by their names
 abbrev pub sumsText : List ℕ
-sumsText = bytesOf "px ? py ? spin ? motion ?\n"
+sumsText = bytesOf "mass ? px ? py ? spin ? motion ? marks ?\n"
 
-abbrev pub sums : Totals → List ℤ
-sums t = t .px ∷ t .py ∷ t .spin ∷ t .motion ∷ []
-
-pub totals-text : (t : Totals) → totalsLine t ≡ (bytesOf "mass " ++ naturalText (t .mass) space) ++ filledIn sumsText (sums t)
+pub totals-text : (t : Totals) → totalsLine t ≡ filledIn sumsText (sums t)
 unfolding totalsLine
-totals-text t = simp append-assoc
+totals-text t = refl
 
 -- a record's line is that of the particle's numbers
 pub particle-numbers : (p : Particle) → particleLine p ≡ line (map signed (numbers p))
@@ -38,7 +35,7 @@ unfolding particleLine signed
 particle-numbers p = refl
 
 abbrev pub numbersText : List ℕ
-numbersText = bytesOf "? ? ? ? ? ? ? ? ? ?\n"
+numbersText = bytesOf "? ? ? ? ? ? ? ? ? ? ?\n"
 
 pub particle-text : (p : Particle) → particleLine p ≡ filledIn numbersText (numbers p)
 particle-text p = particle-numbers p

@@ -1,5 +1,5 @@
--- The lines of document 01's "The program". Words and numbers of a line have a space between them, and every line ends with
--- a line feed. Assumes nothing.
+-- The lines of document 01's "The program", with document 02's marks. Words and numbers of a line have a space between them, and
+-- every line ends with a line feed. Assumes nothing.
 use Prim.Native.Nat.{ℕ}
 use mathlib.Core.List.{List, [], _∷_, _++_}
 use Rattle.particle.specs.declared.Particle.{Particle}
@@ -25,7 +25,7 @@ unfoldable pub totalsLine : Totals → List ℕ
 totalsLine t =
     line
     (bytesOf "mass"
-    ∷ decimal (t .mass)
+    ∷ signed (t .mass)
     ∷ bytesOf "px"
     ∷ signed (t .px)
     ∷ bytesOf "py"
@@ -34,9 +34,11 @@ totalsLine t =
     ∷ signed (t .spin)
     ∷ bytesOf "motion"
     ∷ signed (t .motion)
+    ∷ bytesOf "marks"
+    ∷ signed (t .marks)
     ∷ [])
 
--- a record: identifier, mass, x, y, vx, vy, Bxx, Bxy, Byx, Byy
+-- a record: identifier, mass, x, y, vx, vy, Bxx, Bxy, Byx, Byy, marks
 unfoldable pub particleLine : Particle → List ℕ
 particleLine p =
     line
@@ -50,6 +52,7 @@ particleLine p =
     ∷ signed (p .bxy)
     ∷ signed (p .byx)
     ∷ signed (p .byy)
+    ∷ decimal (p .marks)
     ∷ [])
 
 unfoldable pub particleLines : List Particle → List ℕ

@@ -27,10 +27,10 @@ textOf (Stopped completed e totals) records = runText completed (number e) (plac
 
 -- the length of a buffer that every text fits: room for the first two lines, and for each record's
 abbrev pub headLength : ℕ
-headLength = 192
+headLength = 224
 
 abbrev pub lineLength : ℕ
-lineLength = 53
+lineLength = 57
 
 abbrev pub reportLength : ℕ
 reportLength = headLength + lineLength * mostRecords

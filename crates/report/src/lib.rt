@@ -7,9 +7,9 @@ use totals::Totals;
 // The length of a buffer that every report fits: room for the first two lines, and for each record's.
 pub const REPORT_LENGTH: usize = HEAD_LENGTH + LINE_LENGTH * MOST_RECORDS;
 
-const HEAD_LENGTH: usize = 192;
+const HEAD_LENGTH: usize = 224;
 
-const LINE_LENGTH: usize = 53;
+const LINE_LENGTH: usize = 57;
 
 // What the program has to tell.
 pub enum Outcome {

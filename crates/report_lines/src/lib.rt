@@ -23,14 +23,18 @@ pub fn put_done(out: &mut [u8], at: usize, completed: u64, refusal: u64, place: 
     phrases::put_named_natural(out, second, b"at ", place, text::LINE_FEED)
 }
 
-// The line of the totals: one more sum is one more name with its place, and one more number. Crate report_text calls it.
+// The line of the totals: one more sum is one more name with its place. Crate report_text calls it.
 pub fn put_totals(out: &mut [u8], at: usize, t: Totals) -> usize
     requires { ⌜ Room (now out) at (totalsLine t) ⌝ }
     ensures { λ r. ⌜ Put (now (out .entry)) at (totalsLine t) (now (out .exit)) r ⌝ }
 {
-    let last = phrases::put_named_natural(out, at, b"mass ", t.mass, text::SPACE);
-    let sums = [t.px, t.py, t.spin, t.motion];
-    phrases::put_filled(out, last, b"px ? py ? spin ? motion ?\n", &sums)
+    let sums = totals_share::sums_of(t);
+    phrases::put_filled(
+        out,
+        at,
+        b"mass ? px ? py ? spin ? motion ? marks ?\n",
+        &sums,
+    )
 }
 
 // The line of a record. Crate report_text calls it.
@@ -39,5 +43,5 @@ pub fn put_particle(out: &mut [u8], at: usize, p: Particle) -> usize
     ensures { λ r. ⌜ Put (now (out .entry)) at (particleLine p) (now (out .exit)) r ⌝ }
 {
     let numbers = record_reader::numbers_of(p);
-    phrases::put_filled(out, at, b"? ? ? ? ? ? ? ? ? ?\n", &numbers)
+    phrases::put_filled(out, at, b"? ? ? ? ? ? ? ? ? ? ?\n", &numbers)
 }

@@ -30,6 +30,7 @@ fn totals_of(nx: usize, ny: usize, records: &[u8]) -> Totals
             py: 0,
             spin: 0,
             motion: 0,
+            marks: 0,
         },
     }
 }

@@ -29,9 +29,9 @@ pub record ParticleReady (nx ny : ℕ) (p : Particle) (table : List (List ℕ)) 
   pub kernel : Kernel table D
   pub held : Held mostBefore (nx * ny) mass px py
 
--- the particle of these numbers, with identifier 0: no transfer reads it
-abbrev pub unidentified : ℕ → ℕ → ℕ → ℤ → ℤ → ℤ → ℤ → ℤ → ℤ → Particle
-unidentified m x y vx vy bxx bxy byx byy =
+-- the particle of these numbers, with identifier 0 and no marks: no transfer reads them
+abbrev pub unlabelled : ℕ → ℕ → ℕ → ℤ → ℤ → ℤ → ℤ → ℤ → ℤ → Particle
+unlabelled m x y vx vy bxx bxy byx byy =
     record {
       identifier = 0;
       mass = m;
@@ -43,6 +43,7 @@ unidentified m x y vx vy bxx bxy byx byy =
       bxy = bxy;
       byx = byx;
       byy = byy;
+      marks = 0;
     }
 
 -- the nearest node minus particle, along one axis

@@ -6,7 +6,7 @@ ghost use lib.IntN.{pos, _+ℤ_, _*ℤ_};
 ghost use Rattle.arith.specs.Size.{Bound};
 ghost use Rattle.limits.specs.Limits.{mostPosition, mostAffine};
 ghost use Rattle.spline.specs.Kernel.{weightIn};
-ghost use Rattle.scatter_particle.specs.Added.{Added, ParticleReady, unidentified, Middle, SpeedLimits};
+ghost use Rattle.scatter_particle.specs.Added.{Added, ParticleReady, unlabelled, Middle, SpeedLimits};
 
 // The nearest node minus particle, along one axis.
 fn middle(x: usize) -> i64
@@ -52,8 +52,8 @@ pub fn add_particle(
     px: &mut [i64],
     py: &mut [i64],
 )
-    requires { ⌜ ParticleReady nx ny (unidentified m x y vx vy bxx bxy byx byy) (now table) d (now mass) (now px) (now py) ⌝ }
-    ensures { λ r. ⌜ Added (weightIn (now (table .entry))) d nx ny (unidentified m x y vx vy bxx bxy byx byy ∷ []) (now (mass .entry)) (now (px .entry)) (now (py .entry)) (now (mass .exit)) (now (px .exit)) (now (py .exit)) ⌝ }
+    requires { ⌜ ParticleReady nx ny (unlabelled m x y vx vy bxx bxy byx byy) (now table) d (now mass) (now px) (now py) ⌝ }
+    ensures { λ r. ⌜ Added (weightIn (now (table .entry))) d nx ny (unlabelled m x y vx vy bxx bxy byx byy ∷ []) (now (mass .entry)) (now (px .entry)) (now (py .entry)) (now (mass .exit)) (now (px .exit)) (now (py .exit)) ⌝ }
 {
     let wx = spline::weights_at(table, x);
     let wy = spline::weights_at(table, y);

@@ -14,7 +14,7 @@ use lib.ListN.{length}
 use lib.IntN.{ℤ, pos, _+ℤ_, _-ℤ_, _*ℤ_}
 use Rattle.arith.specs.Order.{Within, linear, reading, _&_, nothing}
 use Rattle.arith.specs.Rounding.{rounded}
-use Rattle.arith.specs.Sums.{Each, sumOver}
+use Rattle.arith.specs.Sums.{Each, sumOver, total-same}
 use Rattle.refusal.specs.Refused.{result}
 use Rattle.spline.specs.Spline.{axisWeight, D}
 use Rattle.particle.specs.declared.Particle.{Particle}
@@ -24,7 +24,7 @@ use Rattle.apic.proofs.Spline.{spline-lawful}
 use Rattle.settings.specs.declared.Settings.{Settings}
 use Rattle.simulation.specs.Step.{stepped, stepOf}
 use Rattle.simulation.specs.Demand3.{worked, arrives, forcingOf, turningOf, momentOf, Keeps}
-use Rattle.simulation.proofs.Steps.{Completed, kept-identifiers, kept-masses, kept-mass, step-linear, step-angular}
+use Rattle.simulation.proofs.Steps.{Completed, kept-identifiers, kept-masses, kept-marks, kept-mass, step-linear, step-angular}
 
 abbrev pub Chain : List Settings → List Particle → Type 0
 Chain [] ps = Unit {0}
@@ -66,6 +66,8 @@ chain-keeps [] ps h =
     record {
       identifiers = refl;
       masses = refl;
+      marks = refl;
+      marked = refl;
       linear = λ a. none (pos 0 *ℤ (pos (257 * 2 ^ 26) *ℤ pos (totalMass ps))) (momentum a ps) (nothing-yet (pos (totalMass ps)));
       angular = none (pos 0 *ℤ (pos (2 ^ 35) *ℤ pos (totalMass ps)) +ℤ pos (257 * 2 ^ 26) *ℤ pos 0) (angularMomentum ps) (nothing-turned (pos (totalMass ps)));
     }
@@ -77,6 +79,8 @@ chain-keeps (s ∷ ss) ps h =
     record {
       identifiers = k .identifiers ∙ kept-identifiers axisWeight D s ps;
       masses = k .masses ∙ kept-masses axisWeight D s ps;
+      marks = k .marks ∙ kept-marks axisWeight D s ps;
+      marked = k .marked ∙ total-same (λ p. p .marks) (λ n. n) (stepped s ps) ps (kept-marks axisWeight D s ps);
       linear = λ a.
           added (pos (suc n) *ℤ (pos (257 * 2 ^ 26) *ℤ m)) (pos (257 * 2 ^ 26) *ℤ m) (pos n *ℤ (pos (257 * 2 ^ 26) *ℤ m))
           (momentum a ps) (momentum a (stepped s ps)) (momentum a (arrives ss (stepped s ps)))

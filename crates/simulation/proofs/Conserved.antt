@@ -4,6 +4,7 @@ use mathlib.Core.List.{List, map}
 use Prim.Native.Nat.{_*_}
 use lib.ListN.{length, length-map}
 use Rattle.particle.specs.declared.Particle.{Particle}
+use Rattle.particle.specs.Layout.{recordLength}
 use Rattle.particles.specs.Set.{particlesIn}
 use Rattle.simulation.specs.Demand3.{leavesAll, settingsAll, completesAll, completedSteps, Keeps, Demand3}
 use Rattle.simulation.proofs.Records.{accepted-length}
@@ -23,7 +24,7 @@ demand-3 start h calls =
     record {
       count =
           accepted-length (w .accepted)
-          ∙ ap (λ n. 14 * n) (same-count ps (particlesIn (leavesAll calls start)) (keeps .identifiers))
+          ∙ ap (λ n. recordLength * n) (same-count ps (particlesIn (leavesAll calls start)) (keeps .identifiers))
           ∙ sym (accepted-length h);
       whole = keeps;
       each = chain-each ss ps (w .chain);

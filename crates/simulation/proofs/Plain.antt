@@ -87,6 +87,8 @@ plain-keeps n steps ps qs plain k =
     record {
       identifiers = k .identifiers;
       masses = k .masses;
+      marks = k .marks;
+      marked = k .marked;
       linear = λ a.
           reduced (pos n *ℤ (pos (257 * 2 ^ 26) *ℤ pos (totalMass ps))) (pos n *ℤ (pos 257 *ℤ pos (totalMass ps))) (momentum a ps) (momentum a qs) (sumOver steps (forcingOf a)) (sumOver steps (shareOf a))
           (linear-allowance (pos n) (pos (totalMass ps)))

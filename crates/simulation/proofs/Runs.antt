@@ -25,7 +25,7 @@ use Rattle.particles.specs.Set.{recordCount, recordsOf, particlesIn}
 use Rattle.particles.proofs.Checks.{entered, length-limits}
 use Rattle.unpacked.specs.Unpacked.{perParticle, unpacked, Holds}
 use Rattle.unpacked.proofs.Laws.{numbers-count}
-use Rattle.packing.specs.Packing.{identifiers}
+use Rattle.packing.specs.Packing.{labels}
 use Rattle.unpacking.proofs.Sets.{unpacked-accepted}
 use Rattle.gathering.specs.declared.Gathered.{Gathered}
 use Rattle.gathering.specs.declared.Gathered.the-variants as gathered
@@ -35,7 +35,7 @@ use Rattle.simulation.specs.declared.Ran.the-variants.{Done, Stopped}
 use Rattle.simulation.specs.Step.{After, seen, nodesBy, steppedBy, stepBy}
 use Rattle.simulation.specs.Run.{Completion, afterOne, runBy, runFrom, toldRan}
 use Rattle.simulation.specs.Internal.{StepReady, StepLeaves, Turns, RepeatsFrom, Repeats, Settles, RunReady, toldGatheredTo, current, other, recordsAfter, completedBy}
-use Rattle.simulation.proofs.Steps.{completed, limits-after, kept-identifiers}
+use Rattle.simulation.proofs.Steps.{completed, limits-after, kept-labels}
 use Rattle.simulation.proofs.Refusals.{grid-limits, velocity-limits}
 use Rattle.simulation.proofs.Turns.{swap, current-length, Home}
 
@@ -65,11 +65,11 @@ run-none w D s records ps grids = refl
 
 -- ---- the loop
 
--- from the particles ps: those that the array holds now, under their identifiers
+-- from the particles ps: those that the array holds now, with their labels
 pub record RunningFrom (w : ℕ → ℕ → ℤ) (D : ℕ) (s : Settings) (steps : ℕ) (ps : List Particle) (grids : Grids) (k : ℕ) (mass : List ℕ) (px py a b : List ℤ) : Type 0 where
   pub particles : List Particle
   pub holds : Holds (s .nx) (s .ny) (current k a b) particles
-  pub named : identifiers particles ≡ identifiers ps
+  pub labelled : labels particles ≡ labels ps
   pub is : (records : List ℕ) → plus k (runBy w D s (steps - k) (recordsAfter records k particles) particles (gridsOf mass px py)) ≡ runBy w D s steps records ps grids
 
 -- from whichever particles the source holds
@@ -88,7 +88,7 @@ module _ {s : Settings} {weights : List (List ℕ)} {d : ℕ} {mass : List ℕ} 
             record {
               particles = ps;
               holds = holds;
-              named = refl;
+              labelled = refl;
               is = λ records.
                   ap (λ n. plus 0 (runBy (weightIn weights) d s n records ps (gridsOf mass px py))) (whole steps)
                   ∙ none (runBy (weightIn weights) d s steps records ps (gridsOf mass px py));
@@ -137,7 +137,7 @@ module _ {w : ℕ → ℕ → ℤ} {D : ℕ} {s : Settings} {steps : ℕ} {grids
         record {
           particles = here;
           holds = subst (λ l. Holds (s .nx) (s .ny) l here) (sym (t .kept)) (h .holds);
-          named = h .named;
+          labelled = h .labelled;
           is = λ records.
               sym (
               sym (whole records)
@@ -156,7 +156,7 @@ module _ {w : ℕ → ℕ → ℤ} {D : ℕ} {s : Settings} {steps : ℕ} {grids
           record {
             particles = steppedBy w D s here;
             holds = next-holds t c (h .holds);
-            named = kept-identifiers w D s here ∙ h .named;
+            labelled = kept-labels w D s here ∙ h .labelled;
             is = λ records.
                 ap (λ g. plus (suc k) (runBy w D s (steps - suc k) (recordsOf (steppedBy w D s here)) (steppedBy w D s here) g)) (leaves .grids)
                 ∙ one-more (runBy w D s (steps - suc k) (recordsOf (steppedBy w D s here)) (steppedBy w D s here) (nodesBy w D s here))
@@ -169,7 +169,7 @@ module _ {w : ℕ → ℕ → ℤ} {D : ℕ} {s : Settings} {steps : ℕ} {grids
       record {
         particles = h .particles;
         holds = h .holds;
-        named = h .named;
+        labelled = h .labelled;
         is = λ records.
             sym (
             sym (h .is records)
@@ -268,7 +268,7 @@ module _ {s : Settings} {records mass : List ℕ} {px py : List ℤ} (ready : Ru
 
       pub run-seen : {records′ : List ℕ} → Settles k (current k a′ b′) records records′ → seen (toldRan r) records′ (gridsOf mass′ px′ py′) ≡ runBy w D s steps records (particlesIn records) (gridsOf mass px py)
       run-seen settles =
-          ap (λ l. seen (toldRan r) l (gridsOf mass′ px′ py′)) (settles (after .particles) (held-then .is) (after .named) ∙ ap (λ n. recordsAfter records n (after .particles)) same)
+          ap (λ l. seen (toldRan r) l (gridsOf mass′ px′ py′)) (settles (after .particles) (held-then .is) (after .labelled) ∙ ap (λ n. recordsAfter records n (after .particles)) same)
           ∙ after .is records
 
 -- with the spline's table and its D

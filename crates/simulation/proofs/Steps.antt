@@ -3,8 +3,8 @@
 --     step-result         a step that is not refused passed its checks and leads to `stepped`
 --     completed           so it is completed
 --     limits-after        the particles after it break no limit
---     kept-identifiers, kept-masses, kept-mass
---                         identifiers and masses are kept
+--     kept-labels, kept-identifiers, kept-masses, kept-marks, kept-mass
+--                         identifiers, masses and marks are kept
 --     step-linear, step-angular
 --                         demand 3 for one step
 -- Assumes nothing.
@@ -16,20 +16,20 @@ use lib.IntN.{ℤ, pos, _+ℤ_, _-ℤ_, _*ℤ_}
 use lib.Signed.{_≤ℤ_, nonNeg, pos-natAbs}
 use Rattle.arith.specs.Order.{Within, pos-nonneg}
 use Rattle.arith.specs.Rounding.{rounded, rounded-error}
-use Rattle.arith.specs.Sums.{Each, each-map}
-use Rattle.refusal.specs.Refused.{Answer, result, refused}
-use Rattle.refusal.proofs.Answers.{same-result, not-result}
+use Rattle.arith.specs.Sums.{Each, each-map, total-same}
+use Rattle.refusal.specs.Refused.{Answer, result}
 use Rattle.particle.specs.declared.Particle.{Particle}
+use Rattle.particle.specs.Record.{label}
 use Rattle.apic.specs.Step.{Axis, alongX, alongY, gravity, newCoordinate, moved, node}
 use Rattle.apic.specs.Totals.{totalMass, momentum, angularMomentum, torque, impulse, angularImpulse, firstMoment}
 use Rattle.apic.specs.Limits.{SetLimits}
-use Rattle.apic.proofs.Gather.{NewPlace, gather-identifiers, gather-masses, gather-mass}
+use Rattle.apic.proofs.Gather.{NewPlace, gather-keeps}
 use Rattle.apic.proofs.Fields.{velocity-fields}
 use Rattle.apic.proofs.Bounds.{spread-whole}
 use Rattle.apic.proofs.Kernel.{Lawful}
 use Rattle.apic.proofs.Conservation as apic
 use Rattle.gathering.specs.Gather.{moveChecks}
-use Rattle.gathering.proofs.Checks.{follow, checks-follow, Passed, passed}
+use Rattle.gathering.proofs.Checks.{checks-result, Passed, passed}
 use Rattle.gathering.proofs.Kept.{set-kept}
 use Rattle.settings.specs.declared.Settings.{Settings}
 use Rattle.simulation.specs.Step.{velocitiesBy, moveBy, steppedBy, stepBy}
@@ -44,14 +44,9 @@ pub record Completed (w : ℕ → ℕ → ℤ) (D : ℕ) (s : Settings) (ps : Li
   pub checked : checks w D s ps ≡ result tt
   pub unrefused : stepBy w D s ps ≡ result (steppedBy w D s ps)
 
-followed : {A : Type 0} (a : Answer (Unit {0})) (b c : A) → follow a (result b) ≡ result c → (a ≡ result tt) × (b ≡ c)
-followed (result u) b c e = (refl, same-result e)
-followed (refused n k) b c e = not-result e
-
 pub step-result : (w : ℕ → ℕ → ℤ) (D : ℕ) (s : Settings) (ps : List Particle) {qs : List Particle} → stepBy w D s ps ≡ result qs → (checks w D s ps ≡ result tt) × (steppedBy w D s ps ≡ qs)
 unfolding stepBy
-step-result w D s ps {qs} e =
-    followed (checks w D s ps) (steppedBy w D s ps) qs (sym (checks-follow (s .nx) (s .ny) (moveBy w D s ps) 0 ps (result (steppedBy w D s ps))) ∙ e)
+step-result w D s ps e = checks-result (s .nx) (s .ny) (moveBy w D s ps) 0 ps (steppedBy w D s ps) e
 
 pub completed : (w : ℕ → ℕ → ℤ) (D : ℕ) (s : Settings) (ps : List Particle) {qs : List Particle} → SetLimits (s .nx) (s .ny) ps → stepBy w D s ps ≡ result qs → Completed w D s ps
 completed w D s ps limits e =
@@ -74,17 +69,28 @@ module _ (w : ℕ → ℕ → ℤ) (D : ℕ) (s : Settings) (ps : List Particle)
   abbrev uy : ℕ → ℕ → ℤ
   uy = node (s .nx) (velocitiesBy w D s alongY ps)
 
-  pub kept-identifiers : map (λ p. p .identifier) (steppedBy w D s ps) ≡ map (λ p. p .identifier) ps
+  kept : {A : Type 0} (f : Particle → A) → ((p : Particle) → f (moveBy w D s ps p) ≡ f p) → map f (steppedBy w D s ps) ≡ map f ps
   unfolding steppedBy
-  kept-identifiers = gather-identifiers rounded w (s .nx) (s .ny) ux uy ps
+  kept f same = gather-keeps rounded w (s .nx) (s .ny) ux uy f same ps
+
+  pub kept-labels : map label (steppedBy w D s ps) ≡ map label ps
+  unfolding moved
+  kept-labels = kept label (λ p. refl)
+
+  pub kept-identifiers : map (λ p. p .identifier) (steppedBy w D s ps) ≡ map (λ p. p .identifier) ps
+  unfolding moved
+  kept-identifiers = kept (λ p. p .identifier) (λ p. refl)
 
   pub kept-masses : map (λ p. p .mass) (steppedBy w D s ps) ≡ map (λ p. p .mass) ps
-  unfolding steppedBy
-  kept-masses = gather-masses rounded w (s .nx) (s .ny) ux uy ps
+  unfolding moved
+  kept-masses = kept (λ p. p .mass) (λ p. refl)
+
+  pub kept-marks : map (λ p. p .marks) (steppedBy w D s ps) ≡ map (λ p. p .marks) ps
+  unfolding moved
+  kept-marks = kept (λ p. p .marks) (λ p. refl)
 
   pub kept-mass : totalMass (steppedBy w D s ps) ≡ totalMass ps
-  unfolding steppedBy
-  kept-mass = gather-mass rounded w (s .nx) (s .ny) ux uy ps
+  kept-mass = total-same (λ p. p .mass) (λ m. m) (steppedBy w D s ps) ps kept-masses
 
   module _ (h : Completed w D s ps) where
     pub limits-after : SetLimits (s .nx) (s .ny) (steppedBy w D s ps)

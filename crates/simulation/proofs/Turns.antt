@@ -88,7 +88,7 @@ after-some records zero qs h = absurd (h refl)
 after-some records (suc k) qs h = refl
 
 pub none-settled : (k : ℕ) (l : List ℤ) (records : List ℕ) → k ≡ 0 → Settles k l records records
-none-settled k l records e ps is named = ap (λ n. recordsAfter records n ps) (sym e)
+none-settled k l records e ps is labelled = ap (λ n. recordsAfter records n ps) (sym e)
 
 module _ (k : ℕ) (a b : List ℤ) (records : List ℕ) where
   pub even-packable : k % 2 ≡ 0 → Home records (current k a b) → Home records a
@@ -98,7 +98,7 @@ module _ (k : ℕ) (a b : List ℤ) (records : List ℕ) where
   odd-packable e h = subst (Home records) (odd k a b e) h
 
   packed : {l : List ℤ} {records′ : List ℕ} → (k ≡ 0 → ⊥) → current k a b ≡ l → Packs l records records′ → Settles k (current k a b) records records′
-  packed h e p ps is named = p ps (sym e ∙ is) named ∙ after-some records k ps h
+  packed h e p ps is labelled = p ps (sym e ∙ is) labelled ∙ after-some records k ps h
 
   pub even-packed : {records′ : List ℕ} → (k ≡ 0 → ⊥) → k % 2 ≡ 0 → Packs a records records′ → Settles k (current k a b) records records′
   even-packed h e p = packed h (even k a b e) p

@@ -1,6 +1,7 @@
--- Demand 3, document 01's "The lists of demand 3" and document 02's paper 1: what every list of step and run calls keeps, as one
--- claim. This file says, in this order, what a call is and what it leaves of the records, which steps a list of calls completed,
--- and the claim. Totals, and what drag and rim change, are those of apic's specs/Totals.antt. `Within k z` says that −k ≤ z ≤ k.
+-- Demand 3, document 01's "The lists of demand 3" and document 02's papers 1 and 6: what every list of step and run calls keeps,
+-- as one claim. This file says, in this order, what a call is and what it leaves of the records, which steps a list of calls
+-- completed, and the claim. Totals, and what drag and rim change, are those of apic's specs/Totals.antt. `Within k z` says that
+-- −k ≤ z ≤ k.
 -- Assumes nothing.
 use mathlib.Core.Path.{_≡_}
 use mathlib.Core.List.{List, [], _∷_, _++_, map}
@@ -14,7 +15,7 @@ use Rattle.refusal.specs.Refused.{result, either}
 use Rattle.spline.specs.Spline.{axisWeight, D}
 use Rattle.particle.specs.declared.Particle.{Particle}
 use Rattle.apic.specs.Step.{Axis, gravity, Grids}
-use Rattle.apic.specs.Totals.{totalMass, momentum, angularMomentum, torque, impulse, angularImpulse, firstMoment}
+use Rattle.apic.specs.Totals.{totalMass, momentum, angularMomentum, totalMarks, torque, impulse, angularImpulse, firstMoment}
 use Rattle.particles.specs.Set.{particlesIn, checkAnswer}
 use Rattle.settings.specs.declared.Settings.{Settings}
 use Rattle.simulation.specs.Step.{stepped, stepOf, stepAfter}
@@ -110,9 +111,12 @@ momentOf c = firstMoment (c .before)
 
 -- what n completed steps from ps to qs keep; all of it times 2^35
 pub record Keeps (n : ℕ) (steps : List CompletedStep) (ps qs : List Particle) : Type 0 where
-  -- the same identifiers and masses in the same order
+  -- the same identifiers, masses and marks in the same order
   pub identifiers : map (λ p. p .identifier) qs ≡ map (λ p. p .identifier) ps
   pub masses : map (λ p. p .mass) qs ≡ map (λ p. p .mass) ps
+  pub marks : map (λ p. p .marks) qs ≡ map (λ p. p .marks) ps
+  -- and so the sum of the marks
+  pub marked : totalMarks qs ≡ totalMarks ps
   -- momentum is the start's plus gravity's shares and the impulses of drag and rim, within n times 257/512 of the total mass
   pub linear : (a : Axis) → Within (pos n *ℤ (pos (257 * 2 ^ 26) *ℤ pos (totalMass ps))) (pos (2 ^ 35) *ℤ (momentum a qs -ℤ momentum a ps) -ℤ pos 2 *ℤ sumOver steps (forcingOf a))
   -- angular momentum is the start's plus gravity's torques and the angular impulses of drag and rim, within n times the total mass

@@ -12,7 +12,7 @@ use Rattle.spline.specs.Kernel.{Kernel}
 use Rattle.particle.specs.declared.Particle.{Particle}
 use Rattle.particles.specs.Set.{setLength, recordsOf, particlesIn, setAnswer}
 use Rattle.unpacked.specs.Unpacked.{unpacked, Holds, UnpackedSet}
-use Rattle.packing.specs.Packing.{identifiers}
+use Rattle.packing.specs.Packing.{labels}
 use Rattle.gathering.specs.declared.Gathered.{Gathered}
 use Rattle.gathering.specs.declared.Gathered.the-variants.{Done, Refused}
 use Rattle.settings.specs.declared.Settings.{Settings}
@@ -69,12 +69,12 @@ recordsAfter records (suc n) qs = recordsOf qs
 abbrev pub completedBy : Ran → ℕ
 completedBy r = toldRan r .completed
 
--- a run from the particles ps: those that the array holds after it, under their identifiers, and what a caller sees who gave
+-- a run from the particles ps: those that the array holds after it, with their labels, and what a caller sees who gave
 -- any records
 pub record RepeatsFrom (w : ℕ → ℕ → ℤ) (D : ℕ) (s : Settings) (steps : ℕ) (ps : List Particle) (grids : Grids) (r : Ran) (mass : List ℕ) (px py a b : List ℤ) : Type 0 where
   pub particles : List Particle
   pub holds : Holds (s .nx) (s .ny) (current (completedBy r) a b) particles
-  pub named : identifiers particles ≡ identifiers ps
+  pub labelled : labels particles ≡ labels ps
   pub is : (records : List ℕ) → seen (toldRan r) (recordsAfter records (completedBy r) particles) (gridsOf mass px py) ≡ runBy w D s steps records ps grids
 
 -- whichever particles the source holds
@@ -85,7 +85,7 @@ Repeats w D s steps source grids r mass px py a b =
 -- the records after so many steps that led to the particles of this array, whichever they are
 abbrev pub Settles : ℕ → List ℤ → List ℕ → List ℕ → Type 0
 Settles steps l records records′ =
-    (ps : List Particle) → l ≡ unpacked ps → identifiers ps ≡ identifiers (particlesIn records) → records′ ≡ recordsAfter records steps ps
+    (ps : List Particle) → l ≡ unpacked ps → labels ps ≡ labels (particlesIn records) → records′ ≡ recordsAfter records steps ps
 
 -- what a run of accepted records answers and leaves
 abbrev pub Runs : Settings → ℕ → List ℕ → List ℕ → List ℤ → List ℤ → Ran → List ℕ → List ℕ → List ℤ → List ℤ → Type 0

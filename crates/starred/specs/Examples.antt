@@ -1,10 +1,10 @@
 -- The starred examples of documents 01 and 02, one row each: what the operations' definitions answer, and what they must. A row is
 -- an answer with numbers: the three weights of Weights; the number of records of Check a set; of Step the particles in the records
--- that it leaves, their identifier and nine numbers each, or the node velocities that it leaves on the x axis. The grid has 4 by 5
--- nodes, and what the example leaves open differs on the two axes. Assumes nothing.
+-- that it leaves, their identifier, nine numbers and marks each, or the node velocities that it leaves on the x axis. The grid has
+-- 4 by 5 nodes, and what the example leaves open differs on the two axes. Assumes nothing.
 use mathlib.Core.Path.{_≡_}
 use mathlib.Core.List.{List, [], _∷_, _++_, map}
-use Prim.Native.Nat.{ℕ}
+use Prim.Native.Nat.{ℕ, _+_}
 use lib.ListN.{replicate}
 use lib.IntN.{ℤ, pos, negℤ}
 use Rattle.refusal.specs.Refused.{Answer, result, refused, andThen}
@@ -17,7 +17,7 @@ use Rattle.apic.specs.Step.{Grids}
 use Rattle.settings.specs.declared.Edge.the-variants.{Open}
 use Rattle.simulation.specs.Step.{After, stepAfter}
 
--- without Bxy, Byx and Byy
+-- without Bxy, Byx and Byy, and with two marks more than its identifier
 abbrev particle : ℕ → ℕ → ℕ → ℕ → ℤ → ℤ → ℤ → Particle
 particle identifier mass x y vx vy bxx =
     record {
@@ -31,6 +31,7 @@ particle identifier mass x y vx vy bxx =
       bxy = pos 0;
       byx = pos 0;
       byy = pos 0;
+      marks = identifier + 2;
     }
 
 -- the weights at offset q
@@ -50,7 +51,7 @@ after gx gy ps = stepAfter (record { nx = 4; ny = 5; gx = gx; gy = gy; edge = Op
 
 abbrev listed : List Particle → List ℤ
 listed [] = []
-listed (p ∷ ps) = pos (p .identifier) ∷ numbers p ++ listed ps
+listed (p ∷ ps) = pos (p .identifier) ∷ numbers p ++ pos (p .marks) ∷ listed ps
 
 abbrev stepping : ℤ → ℤ → List Particle → Answer (List ℤ)
 stepping gx gy ps = andThen (after gx gy ps .answer) (λ _. result (listed (particlesIn (after gx gy ps .records))))

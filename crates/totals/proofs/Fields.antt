@@ -15,12 +15,13 @@ abbrev pub Told : Totals → Type 0
 Told t = AreAll (fields the-type) (the-type .to t) (valss (fields the-type) (spells (the-type .parts) the-laws) (the-type .to t))
 
 pub record Typed (t : Totals) : Type 0 where
-  pub mass : t .mass < 2 ^ 64
+  pub mass : mag (t .mass) < 2 ^ 63
   pub px : mag (t .px) < 2 ^ 63
   pub py : mag (t .py) < 2 ^ 63
   pub spin : mag (t .spin) < 2 ^ 63
   pub motion : mag (t .motion) < 2 ^ 63
+  pub marks : mag (t .marks) < 2 ^ 63
 
 pub typed : (t : Totals) → Told t → Typed t
-typed t (mass, (px, (py, (spin, (motion, end))))) =
-    record { mass = mass .1; px = px .1; py = py .1; spin = spin .1; motion = motion .1 }
+typed t (mass, (px, (py, (spin, (motion, (marks, end)))))) =
+    record { mass = mass .1; px = px .1; py = py .1; spin = spin .1; motion = motion .1; marks = marks .1 }

@@ -1,11 +1,13 @@
--- Document 01, "Totals", with document 02's motion: the sums over a particle set, and the operation's answer. Assumes nothing.
-use mathlib.Core.List.{List}
+-- Document 01, "Totals", with document 02's motion and marks: the sums over a particle set, and the operation's answer.
+-- Assumes nothing.
+use mathlib.Core.List.{List, [], _∷_}
 use Prim.Native.Nat.{ℕ}
+use lib.IntN.{ℤ, pos}
 use Rattle.refusal.specs.Refused.{Answer, result, refusedBy, andThen}
 use Rattle.spline.specs.Spline.{D}
 use Rattle.particle.specs.declared.Particle.{Particle}
 use Rattle.apic.specs.Step.{alongX, alongY}
-use Rattle.apic.specs.Totals.{totalMass, momentum, angularMomentum, motion}
+use Rattle.apic.specs.Totals.{totalMass, momentum, angularMomentum, motion, totalMarks}
 use Rattle.particles.specs.Set.{setAnswer}
 use Rattle.totals.specs.declared.Totals.{Totals}
 use Rattle.totals.specs.declared.Totalled.{Totalled}
@@ -14,12 +16,17 @@ use Rattle.totals.specs.declared.Totalled.the-variants as totalled
 abbrev pub totalsOf : List Particle → Totals
 totalsOf ps =
     record {
-      mass = totalMass ps;
+      mass = pos (totalMass ps);
       px = momentum alongX ps;
       py = momentum alongY ps;
       spin = angularMomentum ps;
       motion = motion D ps;
+      marks = pos (totalMarks ps);
     }
+
+-- mass, px, py, spin, motion, marks
+abbrev pub sums : Totals → List ℤ
+sums t = t .mass ∷ t .px ∷ t .py ∷ t .spin ∷ t .motion ∷ t .marks ∷ []
 
 abbrev pub totalsAnswer : ℕ → ℕ → List ℕ → Answer Totals
 totalsAnswer nx ny bytes = andThen (setAnswer nx ny bytes) (λ ps. result (totalsOf ps))

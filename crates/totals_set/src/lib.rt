@@ -17,9 +17,9 @@ ghost use Rattle.apic.specs.Limits.{SizeLimits};
 ghost use Rattle.totals.specs.Totals.{totalsAnswer, toldTotalled};
 ghost use Rattle.totals_set.specs.Walk.{Small, SmallNext, toldNext, nextAnswer, nextRecord, walked};
 
-// How far a walk has come: one more than the last identifier, and the totals so far.
+// How far a walk has come: how far the check has, and the totals so far.
 pub struct Progress {
-    pub least: u64,
+    pub entry: Entry,
     pub totals: Totals,
 }
 
@@ -30,18 +30,13 @@ pub enum Next {
 
 // A particle's checks in its set, and its share added to the totals. `next_record` calls it with a particle that it has read.
 fn next_particle(p: Particle, k: usize, nx: usize, ny: usize, progress: Progress) -> Next
-    requires { ⌜ Valid p × SizeLimits nx ny × (k < mostRecords) × Small k (progress .totals) ⌝ }
+    requires { ⌜ Valid p × (p .marks < 256) × SizeLimits nx ny × (k < mostRecords) × Small k progress ⌝ }
     ensures { λ r. ⌜ (toldNext r ≡ nextAnswer nx ny k progress p) × SmallNext (k + 1) r ⌝ }
 {
-    let before = progress.totals;
-    let entry = Entry {
-        least: progress.least,
-        mass: before.mass,
-    };
-    match particles::check_particle(p, k, nx, ny, entry) {
+    match particles::check_particle(p, k, nx, ny, progress.entry) {
         Entered::Passed(next) => Next::Passed(Progress {
-            least: next.least,
-            totals: totals_share::plus_of(before, totals_share::share_of(p)),
+            entry: next,
+            totals: totals_share::plus_of(progress.totals, totals_share::share_of(p)),
         }),
         Entered::Refused(refusal) => Next::Refused(refusal),
     }
@@ -56,7 +51,7 @@ fn next_record(
     k: usize,
     progress: Progress,
 ) -> Next
-    requires { ⌜ SizeLimits nx ny × (k < mostRecords) × Small k (progress .totals) × (start + recordLength * k + recordLength ≤ length (now bytes)) ⌝ }
+    requires { ⌜ SizeLimits nx ny × (k < mostRecords) × Small k progress × (start + recordLength * k + recordLength ≤ length (now bytes)) ⌝ }
     ensures { λ r. ⌜ (toldNext r ≡ nextRecord nx ny start (now (bytes .entry)) k progress) × SmallNext (k + 1) r ⌝ }
 {
     let at = start + RECORD_LENGTH * k;
@@ -72,13 +67,14 @@ fn walk(nx: usize, ny: usize, bytes: &[u8], start: usize, count: usize) -> Total
     ensures { λ r. ⌜ toldTotalled r ≡ walked nx ny start (now (bytes .entry)) count ⌝ }
 {
     let mut progress = Progress {
-        least: 0,
+        entry: Entry { least: 0, mass: 0 },
         totals: Totals {
             mass: 0,
             px: 0,
             py: 0,
             spin: 0,
             motion: 0,
+            marks: 0,
         },
     };
     let mut k = 0;

@@ -5,10 +5,12 @@
 --     is-share         what the parts promise of the widened numbers is the share
 -- Assumes nothing.
 use mathlib.Core.Path.{_≡_, ap₂, _∙_}
-use Prim.Native.Nat.{_^_}
+use Prim.Native.Nat.{_^_, _<_}
+use native.Mathlib.Omega.{arith}
 use lib.IntN.{ℤ, pos, _+ℤ_, _-ℤ_, _*ℤ_}
 use mir.Syntax.{w64}
 use mir.Val.{toZ, ofZ}
+use mir.Facts.{toZ-pos}
 use Rattle.bits.proofs.Held.{Held, held}
 use Rattle.arith.specs.Size.{Bound, sizes, fits, bounded}
 use Rattle.arith.specs.Machine.{read-as}
@@ -129,13 +131,14 @@ module _ {p : Particle} {m x y vx vy bxx bxy byx byy : ℤ} (wide : Widened p m 
       tt in
       read-as w64 (e ∙ (λ i. wide .mass-held .is i *ℤ (straight i +ℤ turning i))) (bounded {n = 2 ^ 60} (search sizes depth 20) tt) tt
 
-  pub is-share : {px py spin straight turning motion : ℤ} → px ≡ back m *ℤ back vx → py ≡ back m *ℤ back vy → spin ≡ angular → straight ≡ straight-sum → turning ≡ turning-sum → motion ≡ back m *ℤ (back straight +ℤ back turning) → record { mass = p .mass; px = back px; py = back py; spin = back spin; motion = back motion } ≡ share p
-  is-share along-x along-y turn straight-part turning-part whole =
+  pub is-share : {px py spin straight turning motion : ℤ} → px ≡ back m *ℤ back vx → py ≡ back m *ℤ back vy → spin ≡ angular → straight ≡ straight-sum → turning ≡ turning-sum → motion ≡ back m *ℤ (back straight +ℤ back turning) → p .marks < 2 ^ 8 → record { mass = back m; px = back px; py = back py; spin = back spin; motion = back motion; marks = toZ w64 (p .marks) } ≡ share p
+  is-share along-x along-y turn straight-part turning-part whole marked =
       λ i.
       record {
-        mass = p .mass;
+        mass = wide .mass-held .is i;
         px = linear-is (wide .mass-held) (wide .vx-held) along-x i;
         py = linear-is (wide .mass-held) (wide .vy-held) along-y i;
         spin = spin-is turn i;
         motion = motion-is straight-part turning-part whole i;
+        marks = toZ-pos w64 {n = p .marks} (omega (arith, marked)) i;
       }

@@ -1,7 +1,6 @@
 -- That each intermediate value of a share, and each sum of two totals, is a machine number. Assumes nothing.
-use Prim.Native.Nat.{_+_}
 use mir.Syntax.{w64}
-use mir.Val.{Fits, SFits}
+use mir.Val.{SFits}
 use lib.IntN.{ℤ, _+ℤ_, _-ℤ_, _*ℤ_}
 use Rattle.totals.specs.declared.Totals.{Totals}
 
@@ -36,8 +35,9 @@ pub record MotionFits (m straight turning : ℤ) : Type 0 where
   pub product : SFits w64 (m *ℤ (straight +ℤ turning))
 
 pub record SumFits (s t : Totals) : Type 0 where
-  pub mass : Fits w64 (s .mass + t .mass)
+  pub mass : SFits w64 (s .mass +ℤ t .mass)
   pub px : SFits w64 (s .px +ℤ t .px)
   pub py : SFits w64 (s .py +ℤ t .py)
   pub spin : SFits w64 (s .spin +ℤ t .spin)
   pub motion : SFits w64 (s .motion +ℤ t .motion)
+  pub marks : SFits w64 (s .marks +ℤ t .marks)

@@ -1,8 +1,10 @@
-// One particle's share of the totals, and two totals added.
+// One particle's share of the totals, two totals added, and totals as an array.
 use particle::Particle;
+use totals::SUMS;
 use totals::Totals;
 ghost use mathlib.Core.Path.{_≡_};
 ghost use lib.IntN.{_+ℤ_, _-ℤ_, _*ℤ_};
+ghost use Rattle.totals.specs.Totals.{sums};
 ghost use Rattle.totals.specs.Share.{share, plus};
 ghost use Rattle.totals_share.specs.Fits.{LinearFits, AngularFits, StraightFits, TurningFits, MotionFits, SumFits};
 
@@ -60,7 +62,7 @@ pub fn share_of(p: Particle) -> Totals
     let byx = bits::signed(p.byx);
     let byy = bits::signed(p.byy);
     Totals {
-        mass: p.mass as u64,
+        mass: m,
         px: linear_share(m, vx),
         py: linear_share(m, vy),
         spin: angular_share(m, x, y, vx, vy, byx, bxy),
@@ -69,6 +71,7 @@ pub fn share_of(p: Particle) -> Totals
             straight_part(spline::D as i64, vx, vy),
             turning_part(bxx, bxy, byx, byy),
         ),
+        marks: p.marks as i64,
     }
 }
 
@@ -83,5 +86,13 @@ pub fn plus_of(s: Totals, t: Totals) -> Totals
         py: s.py + t.py,
         spin: s.spin + t.spin,
         motion: s.motion + t.motion,
+        marks: s.marks + t.marks,
     }
+}
+
+// The sums, in the order of the report's line.
+pub fn sums_of(t: Totals) -> [i64; SUMS]
+    ensures { λ r. ⌜ r ≡ sums t ⌝ }
+{
+    [t.mass, t.px, t.py, t.spin, t.motion, t.marks]
 }

@@ -3,7 +3,8 @@
 --     refused-moves, pack-ready, done-moves
 --                                   what is left after its answer
 --     bad-entry, by-velocities      the checks before any particle moves, by their parts
---     stopped, gather-set, moved-on     the operation, by those checks
+--     stopped, set-accepted, gather-set, moved-on
+--                                       the operation, by those checks
 -- Assumes nothing.
 use mathlib.Core.Path.{_≡_, refl, sym, ap, _∙_, subst}
 use mathlib.Core.List.{List, map}
@@ -23,8 +24,8 @@ use Rattle.particle.specs.declared.Particle.{Particle}
 use Rattle.particle.specs.Layout.{recordLength}
 use Rattle.apic.specs.Step.{node}
 use Rattle.apic.specs.Limits.{SetLimits}
-use Rattle.apic.proofs.Gather.{gather-identifiers}
-use Rattle.particles.specs.Set.{recordCount, particlesIn}
+use Rattle.apic.proofs.Gather.{gather-labels}
+use Rattle.particles.specs.Set.{recordCount, setAnswer, particlesIn}
 use Rattle.unpacked.specs.Unpacked.{perParticle}
 use Rattle.unpacked.proofs.Laws.{length-unpacked}
 use Rattle.packing.specs.Packing.{Packable, Packs}
@@ -86,7 +87,7 @@ module _ {nx ny : ℕ} {records : List ℕ} {ux uy target : List ℤ} {r : Gathe
     pub done-moves : {records′ : List ℕ} → Packs target records records′ → Moves (moveAnswer nx ny ux uy (particlesIn records)) records done records′
     done-moves packed =
         done-leaves (told ∙ ap (λ a. follow a (result after)) done-it)
-        (packed after (m .target-is done-it) (gather-identifiers rounded axisWeight nx ny (node nx ux) (node nx uy) (particlesIn records)))
+        (packed after (m .target-is done-it) (gather-labels rounded axisWeight nx ny (node nx ux) (node nx uy) (particlesIn records)))
 
 -- ---- the checks before any particle moves
 
@@ -125,6 +126,12 @@ module _ (nx ny : ℕ) (records : List ℕ) (ux uy : List ℤ) where
   stopped e = refused-leaves (ap (λ a. andThen a (λ ps. moveAnswer nx ny ux uy ps)) e)
 
   module _ {ps : List Particle} (e : checkedSet nx ny records ux uy ≡ result ps) where
+    pub set-accepted : setAnswer nx ny records ≡ result ps
+    unfolding checkedSet
+    set-accepted =
+        let a = went-on entry _ e in
+        accepted _ _ 0 records (a .1) .set ∙ went-on (velocityChecks (nx * ny) ux uy) _ (a .2) .2
+
     pub gather-set : GatherSet nx ny records ux uy
     unfolding checkedSet
     gather-set =
@@ -132,11 +139,10 @@ module _ (nx ny : ℕ) (records : List ℕ) (ux uy : List ℤ) where
         let b = went-on (velocityChecks (nx * ny) ux uy) _ (a .2) in
         let l = lengths-of (a .1) in
         let v = node-velocities nx ny ux uy (l .0) (l .1) (b .1) in
-        let set = accepted _ _ 0 records (a .1) .set ∙ b .2 in
         record {
           particles = ps;
-          set = set;
-          most = set-length nx ny records set;
+          set = set-accepted;
+          most = set-length nx ny records set-accepted;
           x-velocities = v .0;
           y-velocities = v .1;
         }

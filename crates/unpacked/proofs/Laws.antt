@@ -91,6 +91,7 @@ nobody =
       bxy = pos 0;
       byx = pos 0;
       byy = pos 0;
+      marks = 0;
     }
 
 pub some-at : {nx ny : ℕ} {l : List ℤ} (s : UnpackedSet nx ny l) (k : ℕ) → k < length l / perParticle → ParticleAt nx ny l k

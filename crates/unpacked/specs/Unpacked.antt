@@ -1,11 +1,12 @@
 -- Particles as one array of numbers, nine for each particle: mass, x, y, vx, vy, Bxx, Bxy, Byx, Byy. The transfers work on such
--- arrays. The identifier is not among the numbers: it stays in the particle's record. Assumes nothing.
+-- arrays. Identifier and marks are not among the numbers: they stay in the particle's record. Assumes nothing.
 use mathlib.Core.Path.{_≡_}
 use mathlib.Core.List.{List, [], _∷_, _++_}
 use Prim.Native.Nat.{ℕ, _+_, _*_, _≤_, _<_}
 use lib.ListN.{length, getD}
 use lib.IntN.{ℤ, pos}
 use Rattle.particle.specs.declared.Particle.{Particle}
+use Rattle.particle.specs.Record.{label}
 use Rattle.apic.specs.Limits.{SizeLimits, ParticleLimits, SetLimits}
 
 -- how many numbers a particle has
@@ -31,7 +32,7 @@ unpacked (p ∷ ps) = numbers p ++ unpacked ps
 
 -- ---- an array that holds a particle set
 
--- these particles, within a set's limits, and nothing else; an array doesn't tell their identifiers
+-- these particles, within a set's limits, and nothing else; an array doesn't tell their labels
 pub record Holds (nx ny : ℕ) (l : List ℤ) (ps : List Particle) : Type 0 where
   pub is : l ≡ unpacked ps
   pub limits : SetLimits nx ny ps
@@ -80,6 +81,6 @@ pub record ReadableAt (l : List ℤ) (k : ℕ) : Type 0 where
   pub inside : perParticle * k + perParticle ≤ length l
   pub numbers : NumbersAt l k particle
 
--- r is the particle with this identifier whose numbers stand there
-abbrev pub ReadsAt : List ℤ → ℕ → ℕ → Particle → Type 0
-ReadsAt l k identifier r = (p : Particle) → NumbersAt l k p → p .identifier ≡ identifier → r ≡ p
+-- r is the particle with this identifier and these marks whose numbers stand there
+abbrev pub ReadsAt : List ℤ → ℕ → ℕ → ℕ → Particle → Type 0
+ReadsAt l k identifier marks r = (p : Particle) → NumbersAt l k p → label p ≡ (identifier, marks) → r ≡ p

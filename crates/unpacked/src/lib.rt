@@ -26,14 +26,14 @@ pub fn natural_at(array: &[i16], at: usize) -> u16
     array[at] as u16
 }
 
-// The particle with index k, under this identifier. Crate packing calls it.
-pub fn particle_at(array: &[i16], k: usize, identifier: u16) -> Particle
+// The particle with index k, with this identifier and these marks. Crate packing calls it.
+pub fn particle_at(array: &[i16], k: usize, identifier: u16, marks: u8) -> Particle
     requires { ⌜ ReadableAt (now array) k ⌝ }
-    ensures { λ r. ⌜ ReadsAt (now (array .entry)) k identifier r ⌝ }
+    ensures { λ r. ⌜ ReadsAt (now (array .entry)) k identifier marks r ⌝ }
 {
     let at = NUMBERS * k;
     Particle {
-        identifier: identifier,
+        identifier,
         mass: natural_at(array, at),
         x: natural_at(array, at + 1),
         y: natural_at(array, at + 2),
@@ -43,5 +43,6 @@ pub fn particle_at(array: &[i16], k: usize, identifier: u16) -> Particle
         bxy: array[at + 6],
         byx: array[at + 7],
         byy: array[at + 8],
+        marks,
     }
 }

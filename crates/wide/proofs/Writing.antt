@@ -47,6 +47,7 @@ narrowed p =
       bxy = clamped (p .bxy);
       byx = clamped (p .byx);
       byy = clamped (p .byy);
+      marks = p .marks;
     }
 
 -- each field passes the same test
@@ -88,6 +89,7 @@ module _ (p : Particle) where
         bxy = within-kept (p .bxy) (v .bxy-to) (lit< tt) i;
         byx = within-kept (p .byx) (v .byx-to) (lit< tt) i;
         byy = within-kept (p .byy) (v .byy-to) (lit< tt) i;
+        marks = p .marks;
       }
 
   pub same-record : SameRecord (narrowed p) p

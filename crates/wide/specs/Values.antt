@@ -1,17 +1,17 @@
 -- The numbers that a caller in another language hands in and gets.
 --     particleWith, headerWith        a particle and a header of these numbers, of any size
---     weightValues, sums, settings    the values of results, as lists; a particle's are its numbers (particle's specs)
+--     weightValues, settings          the values of results, as lists; a particle's are its numbers (particle's specs), and those of
+--                                     totals their sums (totals' specs)
 -- Assumes nothing.
 use mathlib.Core.List.{List, [], _∷_}
 use Prim.Native.Nat.{ℕ}
 use lib.IntN.{ℤ, pos}
 use Rattle.spline.specs.Answers.{Three}
 use Rattle.particle.specs.declared.Particle.{Particle}
-use Rattle.totals.specs.declared.Totals.{Totals}
 use Rattle.bath_file.specs.declared.Header.{Header}
 
-abbrev pub particleWith : ℕ → ℕ → ℕ → ℕ → ℤ → ℤ → ℤ → ℤ → ℤ → ℤ → Particle
-particleWith identifier mass x y vx vy bxx bxy byx byy =
+abbrev pub particleWith : ℕ → ℕ → ℕ → ℕ → ℤ → ℤ → ℤ → ℤ → ℤ → ℤ → ℕ → Particle
+particleWith identifier mass x y vx vy bxx bxy byx byy marks =
     record {
       identifier = identifier;
       mass = mass;
@@ -23,6 +23,7 @@ particleWith identifier mass x y vx vy bxx bxy byx byy =
       bxy = bxy;
       byx = byx;
       byy = byy;
+      marks = marks;
     }
 
 abbrev pub headerWith : ℕ → ℕ → ℤ → ℤ → ℕ → ℕ → ℕ → ℕ → ℕ → Header
@@ -42,10 +43,6 @@ headerWith nx ny gx gy count steps kind width drag =
 -- the lower, the nearest and the upper weight
 abbrev pub weightValues : Three → List ℤ
 weightValues w = w .lower ∷ w .nearest ∷ w .upper ∷ []
-
--- mass, px, py, spin, motion
-abbrev pub sums : Totals → List ℤ
-sums t = pos (t .mass) ∷ t .px ∷ t .py ∷ t .spin ∷ t .motion ∷ []
 
 -- Nx, Ny, gx, gy, count, steps, kind, width, drag
 abbrev pub settings : Header → List ℤ

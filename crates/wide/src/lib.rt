@@ -6,17 +6,12 @@ mod narrow;
 use bath_file::Header;
 use particle::Particle;
 use spline::AxisWeights;
-use totals::Totals;
 ghost use mathlib.Core.Path.{_≡_};
-ghost use Prim.Native.Nat.{_≤_};
-ghost use Rattle.limits.specs.Limits.{mostTotalMass};
 ghost use Rattle.spline.specs.Answers.{threeOf};
-ghost use Rattle.wide.specs.Values.{weightValues, sums, settings, particleWith, headerWith};
+ghost use Rattle.wide.specs.Values.{weightValues, settings, particleWith, headerWith};
 ghost use Rattle.wide.specs.Internal.{SameRecord, SameHeader, Narrow};
 
-// How many values the totals and a header have.
-pub const SUMS: usize = 5;
-
+// How many values a header has.
 pub const SETTINGS: usize = 9;
 
 // The particle to write for these numbers: a write answers and leaves what it would for the numbers themselves.
@@ -31,8 +26,9 @@ pub fn particle(
     bxy: i64,
     byx: i64,
     byy: i64,
+    marks: u8,
 ) -> Particle
-    ensures { λ r. ⌜ SameRecord r (particleWith identifier mass x y vx vy bxx bxy byx byy) ⌝ }
+    ensures { λ r. ⌜ SameRecord r (particleWith identifier mass x y vx vy bxx bxy byx byy marks) ⌝ }
 {
     Particle {
         identifier,
@@ -45,6 +41,7 @@ pub fn particle(
         bxy: narrow::signed(bxy),
         byx: narrow::signed(byx),
         byy: narrow::signed(byy),
+        marks,
     }
 }
 
@@ -80,14 +77,6 @@ pub fn of_weights(w: AxisWeights) -> [i64; 3]
     ensures { λ r. ⌜ r ≡ weightValues (threeOf w) ⌝ }
 {
     [w.lower as i64, w.nearest as i64, w.upper as i64]
-}
-
-// The sums of an accepted set. `gondwize_totals` calls it.
-pub fn of_totals(t: Totals) -> [i64; SUMS]
-    requires { ⌜ t .mass ≤ mostTotalMass ⌝ }
-    ensures { λ r. ⌜ r ≡ sums t ⌝ }
-{
-    [t.mass as i64, t.px, t.py, t.spin, t.motion]
 }
 
 // The values of an accepted header. `gondwize_read_file` calls it.

@@ -57,6 +57,7 @@ impl Bath {
                 bxy,
                 byx,
                 byy,
+                marks: (73 * k) as u8,
             };
             engine::write_record(&particle, record).expect("a particle in range");
         }

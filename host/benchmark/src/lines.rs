@@ -4,7 +4,7 @@ use engine::{read_record, Edge, GridBuffers, Header, Particle, Settings};
 use engine::{HEADER_LENGTH, RECORD_LENGTH};
 
 use crate::bath::Bath;
-use crate::library::{Library, PROVED};
+use crate::library::{Build, PROVED};
 use crate::measure::Subject;
 
 /// An operation, or as many calls of it as the bath has records.
@@ -78,6 +78,9 @@ impl Line {
 pub struct Timed {
     line: Line,
     bath: Bath,
+    /// The length of the records that the buffers hold.
+    record_length: usize,
+    set: Vec<u8>,
     file: Vec<u8>,
     particles: Vec<Particle>,
     records: Vec<u8>,
@@ -108,6 +111,8 @@ impl Timed {
         Timed {
             line,
             bath: bath.clone(),
+            record_length: RECORD_LENGTH,
+            set: bath.records.clone(),
             file: bath.file(),
             particles: records
                 .map(|record| read_record(record).expect("a record"))
@@ -119,6 +124,18 @@ impl Timed {
             velocity: [x.clone(), y.clone()],
             grid: [x, y],
         }
+    }
+
+    /// Lays out the records in this length, in the same memory.
+    fn lay_out(&mut self, record_length: usize) {
+        self.record_length = record_length;
+        self.set.clear();
+        for record in self.bath.records.chunks_exact(RECORD_LENGTH) {
+            self.set.extend(&record[..record_length]);
+        }
+        self.file.truncate(HEADER_LENGTH);
+        self.file.extend(&self.set);
+        self.records.clone_from(&self.set);
     }
 
     /// How many steps or records one call stands for.
@@ -134,7 +151,10 @@ impl Timed {
 }
 
 impl Subject for Timed {
-    fn prepare(&mut self) {
+    fn prepare(&mut self, build: &Build) {
+        if self.record_length != build.record_length() {
+            self.lay_out(build.record_length());
+        }
         if self.line == Line::AddingScatter {
             self.mass.copy_from_slice(&self.scattered);
         }
@@ -143,19 +163,16 @@ impl Subject for Timed {
                 self.grid[0].copy_from_slice(&self.momentum[0]);
                 self.grid[1].copy_from_slice(&self.momentum[1]);
             }
-            Line::Gather | Line::Step | Line::Run(..) => {
-                self.records.copy_from_slice(&self.bath.records)
-            }
+            Line::Gather | Line::Step | Line::Run(..) => self.records.copy_from_slice(&self.set),
             _ => {}
         }
     }
 
-    fn call(&mut self, library: &Library) {
+    fn call(&mut self, build: &Build) {
         let Bath {
-            settings,
-            ref records,
-            steps,
+            settings, steps, ..
         } = self.bath;
+        let (library, records) = (build.library(), &self.set);
         let [x, y] = &mut self.grid;
         let mut grid = GridBuffers {
             mass: &mut self.mass,
@@ -188,22 +205,16 @@ impl Subject for Timed {
                 library.gather(settings.size, &mut self.records, x, y)
             }
             Line::CheckSet => library.check_set(settings.size, records, &mut 0),
-            Line::Totals => library.totals(settings.size, records, &mut [0; 5]),
+            Line::Totals => library.totals(settings.size, records, &mut [0; 6]),
             Line::ReadFile => library.read_file(&self.file, &mut [0; 9]),
             Line::ReadRecords => {
-                let mut values = [0; 10];
-                let records = records.chunks_exact(RECORD_LENGTH);
+                let mut values = [0; 11];
+                let records = records.chunks_exact(self.record_length);
                 records.fold(0, |answer, record| {
                     answer | library.read_record(record, &mut values)
                 })
             }
-            Line::WriteRecords => {
-                let records = self.records.chunks_exact_mut(RECORD_LENGTH);
-                let both = self.particles.iter().zip(records);
-                both.fold(0, |answer, (p, record)| {
-                    answer | library.write_record(p, record)
-                })
-            }
+            Line::WriteRecords => build.write_records(&self.particles, &mut self.records),
             Line::Weights => {
                 let mut values = [0; 3];
                 let offsets = self.particles.iter().map(|p| (p.x % 64) as i64 - 32);

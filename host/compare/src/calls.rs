@@ -3,6 +3,7 @@
 use engine::library::Library;
 use engine::GridBuffers;
 use reference::edge::{OPEN, SLIP, STICKY};
+use reference::limits::RECORD_LENGTH;
 use reference::simulation::{run_by, step_by};
 use reference::transfer::{adding_scatter_by, gather_by, scatter_by};
 use reference::{Edge, Header, Particle, Refusal, RunAnswer, Settings, Size, Sums, Totals};
@@ -66,6 +67,7 @@ fn to_engine(p: Particle) -> Option<engine::Particle> {
         bxy: p.bxy.try_into().ok()?,
         byx: p.byx.try_into().ok()?,
         byy: p.byy.try_into().ok()?,
+        marks: p.marks,
     })
 }
 
@@ -82,6 +84,7 @@ fn from_engine(p: engine::Particle) -> Particle {
         bxy: p.bxy.into(),
         byx: p.byx.into(),
         byy: p.byy.into(),
+        marks: p.marks,
     }
 }
 
@@ -93,6 +96,7 @@ fn from_totals(totals: engine::Totals) -> Totals {
         py: totals.py.into(),
         angular_momentum: totals.angular_momentum.into(),
         motion: totals.motion.into(),
+        marks: totals.marks.into(),
     }
 }
 
@@ -244,7 +248,7 @@ pub fn by_library(
 
 /// Which sums the reference takes: all terms where they are few, and those near each particle else.
 fn sums(buffers: &Buffers) -> Sums {
-    let terms = buffers.bytes.len() / 14 * buffers.grid.x.len();
+    let terms = buffers.bytes.len() / RECORD_LENGTH * buffers.grid.x.len();
     if terms <= 1_000 {
         Sums::Literal
     } else {

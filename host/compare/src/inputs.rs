@@ -1,6 +1,7 @@
 //! Inputs of every operation: valid ones, every limit at its edge and one beyond, and damaged bytes.
 
 use reference::generator::Generator;
+use reference::limits::RECORD_LENGTH;
 use reference::particle_set::pack_records;
 use reference::transfer::scatter_by;
 use reference::{Edge, Grid, Header, Particle, Settings, Size, Sums};
@@ -99,6 +100,7 @@ fn particle(numbers: &mut Generator, size: Size) -> Particle {
     Particle::at_rest(number(0, 65_535) as u16, number(1, 1023), x, y)
         .moving(number(-63, 63), number(-63, 63))
         .with_b(std::array::from_fn(|_| number(-2047, 2047)))
+        .with_marks(number(0, 255) as u8)
 }
 
 /// One number of a particle at a limit or beyond, as far as the type of its field holds it.
@@ -126,6 +128,9 @@ fn place(numbers: &mut Generator, length: usize) -> usize {
     numbers.between(0, length as i128 - 1) as usize
 }
 
+/// The number of a record's bytes.
+const RECORD: i128 = RECORD_LENGTH as i128;
+
 /// Flips bits, cuts, lengthens, or replaces the bytes.
 fn damage(numbers: &mut Generator, bytes: &mut Vec<u8>) {
     match numbers.between(0, 4) {
@@ -136,11 +141,11 @@ fn damage(numbers: &mut Generator, bytes: &mut Vec<u8>) {
             }
         }
         2 => {
-            let cut = numbers.one_of(&[1, 2, 13, 14, 15]) as usize;
+            let cut = numbers.one_of(&[1, 2, RECORD - 1, RECORD, RECORD + 1]) as usize;
             bytes.truncate(bytes.len().saturating_sub(cut));
         }
         3 => {
-            let more = numbers.one_of(&[1, 2, 13, 14, 15]) as usize;
+            let more = numbers.one_of(&[1, 2, RECORD - 1, RECORD, RECORD + 1]) as usize;
             bytes.extend(any_bytes(numbers, more));
         }
         _ => *bytes = any_bytes(numbers, bytes.len()),
@@ -264,8 +269,8 @@ pub fn write_record(numbers: &mut Generator) -> Call {
     }
     let length = match numbers.between(0, 9) {
         0 => numbers.between(0, 40),
-        1 => numbers.one_of(&[0, 13, 15]),
-        _ => 14,
+        1 => numbers.one_of(&[0, RECORD - 1, RECORD + 1]),
+        _ => RECORD,
     };
     let buffer = any_bytes(numbers, length as usize);
     (Operation::WriteRecord(given), only(buffer))
@@ -524,7 +529,7 @@ fn header(numbers: &mut Generator, size: Size, count: usize, ends: HeaderEnds) -
 pub fn read_file(numbers: &mut Generator) -> Call {
     let size = numbers.size();
     let set = records(numbers, size);
-    let count = set.len() / 14;
+    let count = set.len() / RECORD_LENGTH;
     let fields = HeaderEnds {
         side: (0, 63),
         gravity: (-8192, 8191),
@@ -569,7 +574,7 @@ fn file_settings(numbers: &mut Generator, size: Size) -> Settings {
 fn file_of(settings: Settings, steps: i128, records: &[u8]) -> Vec<u8> {
     let header = Header {
         settings,
-        count: (records.len() / 14) as i128,
+        count: (records.len() / RECORD_LENGTH) as i128,
         steps,
     };
     [&header.pack(0)[..], records].concat()
@@ -581,7 +586,7 @@ fn long_file(numbers: &mut Generator) -> Vec<u8> {
     let (size, records) = full_set(numbers, count as usize);
     let steps = numbers.between(0, 1);
     let mut file = file_of(file_settings(numbers, size), steps, &records);
-    let more = numbers.one_of(&[0, 0, 1, 2, 14, 15, 9_000, 70_000]);
+    let more = numbers.one_of(&[0, 0, 1, 2, RECORD, RECORD + 1, 9_000, 70_000]);
     file.extend(any_bytes(numbers, more as usize));
     file
 }
@@ -591,14 +596,17 @@ fn long_file(numbers: &mut Generator) -> Vec<u8> {
 fn approach(numbers: &mut Generator) -> Vec<u8> {
     let size = Size::new(numbers.between(12, 20), numbers.between(9, 20));
     let b = std::array::from_fn(|_| numbers.one_of(&[-2_047, 0, 2_047]));
-    let heavy = Particle::at_rest(3, 1_000, 600, 260).with_b(b);
+    let heavy = Particle::at_rest(3, 1_000, 600, 260)
+        .with_b(b)
+        .with_marks(numbers.marks());
     let light = Particle::at_rest(
         5,
         numbers.between(1, 200),
         300,
         260 + numbers.between(-99, 99),
     )
-    .moving(numbers.between(5, 30), 0);
+    .moving(numbers.between(5, 30), 0)
+    .with_marks(numbers.marks());
     let (gx, gy) = (numbers.between(-90, -1), numbers.between(1, 90));
     file_of(
         Settings::new(size, gx, gy),

@@ -6,7 +6,7 @@ use std::path::Path;
 use compare::calls::{agreed, by_engine};
 use compare::inputs::{self, Ends, I64, U64, USIZE};
 use compare::{count, stream};
-use reference::limits::HEADER_LENGTH;
+use reference::limits::{HEADER_LENGTH, RECORD_LENGTH};
 use reference::report::report;
 use reference::{Edge, Grid, Header, Particle, Settings, Size};
 use vectors::{cases, Answer, Buffers, Operation};
@@ -25,7 +25,7 @@ fn vectors() {
         assert!(after == case.after, "{}: buffers differ", case.name);
         compared += 1;
     }
-    assert!(compared > 1_000, "only {compared} vectors");
+    assert!(compared > 1_800, "only {compared} vectors");
 }
 
 #[test]
@@ -89,7 +89,27 @@ fn wide_numbers_of_a_record() {
     ];
     for field in fields {
         let particle = Particle::at_rest(7, 2, 64, 64);
-        wide(field, particle, &bytes(14), Operation::WriteRecord);
+        wide(
+            field,
+            particle,
+            &bytes(RECORD_LENGTH),
+            Operation::WriteRecord,
+        );
+    }
+}
+
+/// Every number of marks, written and read.
+#[test]
+fn marks() {
+    for marks in 0..=u8::MAX {
+        let particle = Particle::at_rest(258, 5, 77, 1033)
+            .moving(-6, 7)
+            .with_b([-800, 901, 1002, -1103])
+            .with_marks(marks);
+        let write = Operation::WriteRecord(particle);
+        let (_, written) = agreed("marks", write, &bytes(RECORD_LENGTH)).expect("a call");
+        let (read, _) = agreed("marks", Operation::ReadRecord, &written).expect("a call");
+        assert_eq!(read, Answer::Particle(particle));
     }
 }
 
@@ -215,9 +235,9 @@ fn text(file: &[u8]) -> String {
     let Some(Answer::Ran(answer)) = by_engine(Operation::Run(settings, steps), &mut buffers) else {
         panic!("a run");
     };
-    let record = |bytes: &[u8]| Particle::unpack(bytes.try_into().expect("14 bytes"));
-    let particles: Vec<Particle> = buffers.bytes.chunks(14).map(record).collect();
-    report(answer, &particles)
+    let record = |bytes: &[u8]| Particle::unpack(bytes.try_into().expect("a record"));
+    let records = buffers.bytes.chunks(RECORD_LENGTH);
+    report(answer, &records.map(record).collect::<Vec<_>>())
 }
 
 #[test]

@@ -1,18 +1,19 @@
 //! Lists of step and run calls: each gets the records that the one before left, refused ones
-//! included, and demand 3's sums hold of the whole list and of every completed step, with what drag
-//! and rim change at the nodes.
+//! included, and demand 3 holds of the whole list and of every completed step: identifiers, masses and
+//! marks are kept, and so are the sums, with what drag and rim change at the nodes.
 
 use compare::calls::agreed;
 use compare::{count, inputs, seed, stream};
 use reference::conservation::{Ledger, NodeChanges};
+use reference::limits::RECORD_LENGTH;
 use reference::simulation::step_by;
 use reference::{Grid, Particle, Settings, Sums};
 use vectors::{Answer, Operation};
 
 /// The particles of accepted records.
 fn particles(records: &[u8]) -> Vec<Particle> {
-    let record = |bytes: &[u8]| Particle::unpack(bytes.try_into().expect("14 bytes"));
-    records.chunks(14).map(record).collect()
+    let record = |bytes: &[u8]| Particle::unpack(bytes.try_into().expect("a record"));
+    records.chunks(RECORD_LENGTH).map(record).collect()
 }
 
 /// How many steps a call says it completed, and the settings that it was given.

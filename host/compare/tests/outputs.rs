@@ -6,7 +6,6 @@ use compare::inputs::{self, Call};
 use compare::{count, stream};
 use engine::library::PROVED;
 use reference::generator::Generator;
-use reference::Totals;
 use vectors::Answer;
 
 /// What the values hold before a call; no result has it.
@@ -17,11 +16,7 @@ fn values(answer: Answer) -> Option<Vec<i128>> {
     match answer {
         Answer::Particle(particle) => Some(particle.fields().to_vec()),
         Answer::Count(count) => Some(vec![count as i128]),
-        Answer::Totals(totals) => {
-            let Totals { mass, px, py, .. } = totals;
-            let (spin, motion) = (totals.angular_momentum, totals.motion);
-            Some(vec![mass, px, py, spin, motion])
-        }
+        Answer::Totals(totals) => Some(totals.values().to_vec()),
         Answer::Weights(row) => Some(row.to_vec()),
         Answer::Ran(answer) => Some(vec![answer.completed as i128]),
         Answer::Header(header) => Some(header.values().to_vec()),

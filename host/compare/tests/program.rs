@@ -8,6 +8,7 @@ use std::process::{Command, Output, Stdio};
 use compare::inputs::bath_file;
 use compare::{count, seed, stream};
 use program::program;
+use reference::limits::{HEADER_LENGTH, MAX_SET_LENGTH};
 use reference::report::program_by;
 use reference::{read_file, Header, Settings, Sums};
 
@@ -15,7 +16,7 @@ use reference::{read_file, Header, Settings, Sums};
 const ENOUGH: u64 = 3_000;
 
 /// One more than the bytes of the longest file that is accepted.
-const TOO_LONG: usize = 57_356;
+const TOO_LONG: usize = HEADER_LENGTH + MAX_SET_LENGTH + 1;
 
 /// Runs the program on a file that comes through a pipe in two parts.
 fn run(program: &Path, file: &[u8], cut: usize) -> Output {

@@ -28,15 +28,15 @@ fn report(header: Header, records: &mut [u8], out: &mut impl Write) -> Result<()
     let t = totals(header.size, records)?;
     writeln!(
         out,
-        "mass {} px {} py {} spin {} motion {}",
-        t.mass, t.px, t.py, t.angular_momentum, t.motion
+        "mass {} px {} py {} spin {} motion {} marks {}",
+        t.mass, t.px, t.py, t.angular_momentum, t.motion, t.marks
     )?;
     for record in records.chunks(RECORD_LENGTH) {
         let p = read_record(record)?;
         writeln!(
             out,
-            "{} {} {} {} {} {} {} {} {} {}",
-            p.identifier, p.mass, p.x, p.y, p.vx, p.vy, p.bxx, p.bxy, p.byx, p.byy
+            "{} {} {} {} {} {} {} {} {} {} {}",
+            p.identifier, p.mass, p.x, p.y, p.vx, p.vy, p.bxx, p.bxy, p.byx, p.byy, p.marks
         )?;
     }
     Ok(())

@@ -13,7 +13,7 @@ unsafe extern "C" {
     pub fn gondwize_read_record(
         bytes: *const u8,
         bytes_length: usize,
-        values: *mut [i64; 10],
+        values: *mut [i64; 11],
     ) -> u64;
 
     pub fn gondwize_write_record(
@@ -27,6 +27,7 @@ unsafe extern "C" {
         bxy: i64,
         byx: i64,
         byy: i64,
+        marks: u8,
         bytes: *mut u8,
         bytes_length: usize,
     ) -> u64;
@@ -44,7 +45,7 @@ unsafe extern "C" {
         ny: usize,
         records: *const u8,
         records_length: usize,
-        values: *mut [i64; 5],
+        values: *mut [i64; 6],
     ) -> u64;
 
     pub fn gondwize_weights(q: i64, values: *mut [i64; 3]) -> u64;

@@ -1,14 +1,15 @@
 //! Two-dimensional APIC (affine particle-in-cell) with the quadratic B-spline in whole numbers: the
 //! proved engine, called through its static library.
 //!
-//! A particle set is a slice of records, 14 bytes each. An operation takes any numbers and any
+//! A particle set is a slice of records, 15 bytes each. An operation takes any numbers and any
 //! slices, of any length. It does all that it promises or says which [`Limit`] is broken and where,
 //! and then has changed nothing, unless its own text says otherwise.
 //!
 //! ```
 //! use engine::{run, write_record, Edge, GridBuffers, Particle, Settings, Size};
 //!
-//! let particle = Particle { identifier: 7, mass: 2, x: 64, y: 64, vx: 3, vy: -2, ..Particle::default() };
+//! let particle =
+//!     Particle { identifier: 7, mass: 2, x: 64, y: 64, vx: 3, vy: -2, marks: 5, ..Particle::default() };
 //! let mut records = [0; engine::RECORD_LENGTH];
 //! write_record(&particle, &mut records)?;
 //!
@@ -17,7 +18,8 @@
 //! let mut grid = GridBuffers { mass: &mut mass, x: &mut x, y: &mut y };
 //! let answer = run(settings, 1, &mut records, &mut grid);
 //! assert_eq!((answer.completed, answer.refusal), (1, None));
-//! assert_eq!(engine::read_record(&records)?.x, 67);
+//! let particle = engine::read_record(&records)?;
+//! assert_eq!((particle.x, particle.y, particle.marks), (67, 62, 5));
 //! # Ok::<(), engine::Refusal>(())
 //! ```
 //!
@@ -48,7 +50,7 @@ use library::PROVED;
 pub use refusal::{Limit, Refusal};
 
 /// Length of a particle record in bytes.
-pub const RECORD_LENGTH: usize = 14;
+pub const RECORD_LENGTH: usize = 15;
 
 /// Length of a bath file's header in bytes.
 pub const HEADER_LENGTH: usize = 11;
@@ -77,6 +79,9 @@ pub struct Particle {
     pub byx: i64,
     /// B, velocity axis y, offset axis y.
     pub byy: i64,
+    /// Count of marks, any number of 8 bits. Marks travel with their record: no function but
+    /// [`write_record`] changes them.
+    pub marks: u8,
 }
 
 /// Number of nodes along each axis, 4 to 48.
@@ -170,7 +175,7 @@ pub struct GridBuffers<'a> {
 #[derive(Clone, Copy, Debug, PartialEq, Eq, Hash)]
 pub struct Totals {
     /// Sum of m.
-    pub mass: u64,
+    pub mass: i64,
     /// Sum of m·vx.
     pub px: i64,
     /// Sum of m·vy.
@@ -180,6 +185,8 @@ pub struct Totals {
     /// Sum of m·(1024·(vx² + vy²) + Bxx² + Bxy² + Byx² + Byy²): 0 exactly where every velocity and
     /// every entry of B is, and always below 2^42.
     pub motion: i64,
+    /// Sum of marks.
+    pub marks: i64,
 }
 
 /// The values of a bath file's header, as wide as [`Settings`] has them.
@@ -243,19 +250,20 @@ fn field<T: TryFrom<i64>>(value: i64) -> T {
 /// Reads a record.
 ///
 /// ```
-/// let record = [0x00, 0x07, 0x00, 0x81, 0x00, 0x10, 0x01, 0xFE, 0, 0, 0, 0, 0, 0];
+/// let record = [0x00, 0x07, 0x00, 0x81, 0x00, 0x10, 0x01, 0xFE, 0, 0, 0, 0, 0, 0, 9];
 /// let p = engine::read_record(&record)?;
 /// assert_eq!((p.identifier, p.mass, p.x, p.y, p.vx, p.vy), (7, 2, 64, 64, 3, -2));
+/// assert_eq!((p.bxx, p.bxy, p.byx, p.byy, p.marks), (0, 0, 0, 0, 9));
 /// # Ok::<(), engine::Refusal>(())
 /// ```
 ///
 /// # Errors
 ///
-/// 1 length not 14; 4 mass zero; 5 a velocity of −64; 6 a B entry of −2048.
+/// 1 length not 15; 4 mass zero; 5 a velocity of −64; 6 a B entry of −2048.
 pub fn read_record(bytes: &[u8]) -> Result<Particle, Refusal> {
-    let mut values = [0; 10];
+    let mut values = [0; 11];
     Refusal::check(PROVED.read_record(bytes, &mut values))?;
-    let [identifier, mass, x, y, vx, vy, bxx, bxy, byx, byy] = values;
+    let [identifier, mass, x, y, vx, vy, bxx, bxy, byx, byy, marks] = values;
     Ok(Particle {
         identifier: field(identifier),
         mass: field(mass),
@@ -267,6 +275,7 @@ pub fn read_record(bytes: &[u8]) -> Result<Particle, Refusal> {
         bxy,
         byx,
         byy,
+        marks: field(marks),
     })
 }
 
@@ -285,7 +294,7 @@ pub fn read_record(bytes: &[u8]) -> Result<Particle, Refusal> {
 ///
 /// # Errors
 ///
-/// 1 length not 14; 4 mass not 1 to 1023; 5 a velocity out of range; 6 a B entry out of range; 7 x or
+/// 1 length not 15; 4 mass not 1 to 1023; 5 a velocity out of range; 6 a B entry out of range; 7 x or
 /// y above 4095.
 pub fn write_record(particle: &Particle, bytes: &mut [u8]) -> Result<(), Refusal> {
     Refusal::check(PROVED.write_record(particle, bytes))
@@ -308,7 +317,7 @@ pub fn write_record(particle: &Particle, bytes: &mut [u8]) -> Result<(), Refusal
 ///
 /// # Errors
 ///
-/// 2; 1 length not a multiple of 14 or above 57,344; then for each record 4, 5, 6, 7 off the grid, 8,
+/// 2; 1 length not a multiple of 15 or above 61,440; then for each record 4, 5, 6, 7 off the grid, 8,
 /// 9.
 pub fn check_set(size: Size, records: &[u8]) -> Result<usize, Refusal> {
     let mut count = 0;
@@ -318,19 +327,34 @@ pub fn check_set(size: Size, records: &[u8]) -> Result<usize, Refusal> {
 
 /// Totals of a set.
 ///
+/// ```
+/// use engine::{totals, write_record, Particle, Size, RECORD_LENGTH};
+///
+/// let particle = Particle { identifier: 7, mass: 2, x: 64, y: 90, marks: 200, ..Particle::default() };
+/// let mut set = [0; 2 * RECORD_LENGTH];
+/// let (first, second) = set.split_at_mut(RECORD_LENGTH);
+/// write_record(&particle, first)?;
+/// write_record(&Particle { identifier: 9, vx: 3, marks: 61, ..particle }, second)?;
+/// let totals = totals(Size { nx: 4, ny: 5 }, &set)?;
+/// assert_eq!((totals.mass, totals.px, totals.py), (4, 6, 0));
+/// assert_eq!((totals.angular_momentum, totals.motion, totals.marks), (-540, 18_432, 261));
+/// # Ok::<(), engine::Refusal>(())
+/// ```
+///
 /// # Errors
 ///
 /// As [`check_set`].
 pub fn totals(size: Size, records: &[u8]) -> Result<Totals, Refusal> {
-    let mut values = [0; 5];
+    let mut values = [0; 6];
     Refusal::check(PROVED.totals(size, records, &mut values))?;
-    let [mass, px, py, angular_momentum, motion] = values;
+    let [mass, px, py, angular_momentum, motion, marks] = values;
     Ok(Totals {
-        mass: field(mass),
+        mass,
         px,
         py,
         angular_momentum,
         motion,
+        marks,
     })
 }
 
@@ -533,7 +557,7 @@ pub fn run(
 ///
 /// # Errors
 ///
-/// 1 shorter than 11; 2; 10; 18; 3; 17; 16; 1 length not 11 + 14·count; then the set.
+/// 1 shorter than 11; 2; 10; 18; 3; 17; 16; 1 length not 11 + 15·count; then the set.
 pub fn read_file(bytes: &[u8]) -> Result<Header, Refusal> {
     let mut values = [0; 9];
     Refusal::check(PROVED.read_file(bytes, &mut values))?;

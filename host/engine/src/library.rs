@@ -37,7 +37,7 @@ type Scatter = unsafe extern "C" fn(
 #[derive(Clone, Copy)]
 #[allow(missing_docs, clippy::type_complexity)]
 pub struct Functions {
-    pub read_record: unsafe extern "C" fn(Bytes, usize, *mut [i64; 10]) -> u64,
+    pub read_record: unsafe extern "C" fn(Bytes, usize, *mut [i64; 11]) -> u64,
     pub write_record: unsafe extern "C" fn(
         u16,
         u64,
@@ -49,11 +49,12 @@ pub struct Functions {
         i64,
         i64,
         i64,
+        u8,
         BytesOut,
         usize,
     ) -> u64,
     pub check_set: unsafe extern "C" fn(usize, usize, Bytes, usize, *mut u64) -> u64,
-    pub totals: unsafe extern "C" fn(usize, usize, Bytes, usize, *mut [i64; 5]) -> u64,
+    pub totals: unsafe extern "C" fn(usize, usize, Bytes, usize, *mut [i64; 6]) -> u64,
     pub weights: unsafe extern "C" fn(i64, *mut [i64; 3]) -> u64,
     pub scatter: Scatter,
     pub adding_scatter: Scatter,
@@ -169,9 +170,15 @@ impl Library {
         Library { functions }
     }
 
-    /// Read a record: ten values.
+    /// Its functions.
     #[must_use]
-    pub fn read_record(&self, bytes: &[u8], values: &mut [i64; 10]) -> u64 {
+    pub fn functions(&self) -> &Functions {
+        &self.functions
+    }
+
+    /// Read a record: eleven values.
+    #[must_use]
+    pub fn read_record(&self, bytes: &[u8], values: &mut [i64; 11]) -> u64 {
         unsafe { (self.functions.read_record)(bytes.as_ptr(), bytes.len(), values) }
     }
 
@@ -190,6 +197,7 @@ impl Library {
                 p.bxy,
                 p.byx,
                 p.byy,
+                p.marks,
                 bytes.as_mut_ptr(),
                 bytes.len(),
             )
@@ -204,9 +212,9 @@ impl Library {
         }
     }
 
-    /// Totals: five values.
+    /// Totals: six values.
     #[must_use]
-    pub fn totals(&self, size: Size, records: &[u8], values: &mut [i64; 5]) -> u64 {
+    pub fn totals(&self, size: Size, records: &[u8], values: &mut [i64; 6]) -> u64 {
         unsafe {
             (self.functions.totals)(size.nx, size.ny, records.as_ptr(), records.len(), values)
         }

@@ -68,6 +68,7 @@ fn records() -> [u8; COUNT * RECORD_LENGTH] {
             bxy: -300,
             byx: 41 * i64::from(k),
             byy: -2047,
+            marks: 255 - 50 * k as u8,
         };
         write_record(&particle, record).expect("a particle in range");
     }

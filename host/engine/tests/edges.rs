@@ -49,6 +49,7 @@ fn record() -> [u8; RECORD_LENGTH] {
         y: 201,
         vx: 5,
         vy: -9,
+        marks: 201,
         ..Particle::default()
     };
     let mut record = [0; RECORD_LENGTH];

@@ -37,6 +37,7 @@ impl Bath {
                 mass: 32,
                 x: 40 + 43 * (k as u64 % 64),
                 y: 40 + 43 * (k as u64 / 64),
+                marks: (7 * k) as u8,
                 ..Particle::default()
             };
             write_record(&particle, record).expect("a particle in range");

@@ -52,13 +52,13 @@ macro_rules! exports {
 
 exports! {
     /// Read a record.
-    read_record(; bytes bytes_length: read u8; values: [i64; 10]);
+    read_record(; bytes bytes_length: read u8; values: [i64; 11]);
     /// Write a record.
-    write_record(identifier: u16, mass: u64, x: u64, y: u64, vx: i64, vy: i64, bxx: i64, bxy: i64, byx: i64, byy: i64; bytes bytes_length: write u8);
+    write_record(identifier: u16, mass: u64, x: u64, y: u64, vx: i64, vy: i64, bxx: i64, bxy: i64, byx: i64, byy: i64, marks: u8; bytes bytes_length: write u8);
     /// Check a set.
     check_set(nx: usize, ny: usize; records records_length: read u8; count: u64);
     /// Totals.
-    totals(nx: usize, ny: usize; records records_length: read u8; values: [i64; 5]);
+    totals(nx: usize, ny: usize; records records_length: read u8; values: [i64; 6]);
     /// Weights.
     weights(q: i64; ; values: [i64; 3]);
     /// Scatter.

@@ -1,10 +1,10 @@
-//! Document 01 with document 02's Papers 1 to 5 in Rust, written for speed: what the proved engine is
+//! Document 01 with document 02's Papers 1 to 6 in Rust, written for speed: what the proved engine is
 //! measured against.
 //!
 //! The functions take what those of `include/gondwize.h` take, in the same order, a slice for each
 //! pointer with its length, and answer the same numbers. Records are unpacked once per call, as two
-//! words each; scratch memory is on the stack and never cleared; indices that the checks have shown
-//! to be in range are not checked again.
+//! words each, and packed without identifier and marks, which no step changes; scratch memory is on the
+//! stack and never cleared; indices that the checks have shown to be in range are not checked again.
 
 #![warn(missing_docs)]
 

@@ -2,7 +2,7 @@
 
 use std::mem::MaybeUninit;
 
-use crate::particle::{Particle, RECORD_LENGTH};
+use crate::particle::{Particle, Record, RECORD_LENGTH};
 use crate::refused;
 
 /// The largest number of records.
@@ -43,26 +43,27 @@ fn walk(
     nx: usize,
     ny: usize,
     records: &[u8],
-    mut found: impl FnMut(usize, Particle),
+    mut found: impl FnMut(usize, Record),
 ) -> Result<(), u64> {
     let (right, top) = (last(nx), last(ny));
     let mut least = 0;
     let mut mass = 0;
     for (k, record) in records.as_chunks::<RECORD_LENGTH>().0.iter().enumerate() {
-        let p = Particle::unpack(record);
+        let record = Record::unpack(record);
+        let p = record.particle;
         p.check(k)?;
         if p.x < 32 || p.x > right || p.y < 32 || p.y > top {
             return Err(refused(7, k));
         }
-        if u32::from(p.identifier) < least {
+        if u32::from(record.identifier) < least {
             return Err(refused(8, k));
         }
-        least = u32::from(p.identifier) + 1;
+        least = u32::from(record.identifier) + 1;
         mass += p.mass;
         if mass > 131_072 {
             return Err(refused(9, k));
         }
-        found(k, p);
+        found(k, record);
     }
     Ok(())
 }
@@ -80,16 +81,16 @@ pub fn unpack<'a>(
     records: &[u8],
     room: &'a mut Room,
 ) -> Result<&'a mut [Particle], u64> {
-    walk(nx, ny, records, |k, p| {
+    walk(nx, ny, records, |k, record| {
         // SAFETY: a checked length has at most as many records as the room.
-        unsafe { room.get_unchecked_mut(k) }.write(p);
+        unsafe { room.get_unchecked_mut(k) }.write(record.particle);
     })?;
     let count = records.len() / RECORD_LENGTH;
     // SAFETY: the walk has written as many.
     Ok(unsafe { room[..count].assume_init_mut() })
 }
 
-/// Packs every particle into its record.
+/// Packs every particle into its record, which keeps identifier and marks.
 pub fn pack(particles: &[Particle], records: &mut [u8]) {
     for (p, record) in particles.iter().zip(records.as_chunks_mut().0) {
         p.pack(record);
@@ -116,11 +117,12 @@ pub fn check_set(nx: usize, ny: usize, records: &[u8], count: &mut u64) -> u64 {
 }
 
 /// The sums over an accepted set.
-fn summed(nx: usize, ny: usize, records: &[u8]) -> Result<[i64; 5], u64> {
+fn summed(nx: usize, ny: usize, records: &[u8]) -> Result<[i64; 6], u64> {
     check_size(nx, ny)?;
     check_length(records.len())?;
-    let [mut mass, mut px, mut py, mut spin, mut motion] = [0; 5];
-    walk(nx, ny, records, |_, p| {
+    let [mut mass, mut px, mut py, mut spin, mut motion, mut marks] = [0; 6];
+    walk(nx, ny, records, |_, record| {
+        let p = record.particle;
         let m = i64::from(p.mass);
         let (x, y) = (p.x, p.y);
         let (vx, vy) = (p.vx, p.vy);
@@ -130,12 +132,13 @@ fn summed(nx: usize, ny: usize, records: &[u8]) -> Result<[i64; 5], u64> {
         py += m * i64::from(vy);
         spin += m * i64::from(x * vy - y * vx + p.byx - p.bxy);
         motion += m * i64::from(1024 * (vx * vx + vy * vy) + turning);
+        marks += i64::from(record.marks);
     })?;
-    Ok([mass, px, py, spin, motion])
+    Ok([mass, px, py, spin, motion, marks])
 }
 
-/// Totals: five values.
-pub fn totals(nx: usize, ny: usize, records: &[u8], values: &mut [i64; 5]) -> u64 {
+/// Totals: six values.
+pub fn totals(nx: usize, ny: usize, records: &[u8], values: &mut [i64; 6]) -> u64 {
     match summed(nx, ny, records) {
         Ok(sums) => {
             *values = sums;

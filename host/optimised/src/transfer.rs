@@ -122,7 +122,6 @@ pub fn gather_all(
             return Err(refused(15, k));
         }
         to.write(Particle {
-            identifier: p.identifier,
             mass: p.mass,
             x: x as i32,
             y: y as i32,

@@ -122,7 +122,7 @@ fn file(settings: Settings, steps: i128, spare: i128, particles: &[Particle]) ->
 fn refused_files() -> Vec<(u32, usize, Vec<u8>)> {
     let settings = Settings::new(Size::new(8, 6), 12, -256);
     let good: Vec<Particle> = (0..4)
-        .map(|k| Particle::at_rest(10 + k, 5, 100, 90))
+        .map(|k| Particle::at_rest(10 + k, 5, 100, 90).with_marks(60 * k as u8))
         .collect();
     let with = |at: usize, change: fn(&mut Particle)| {
         let mut set = good.clone();
@@ -149,6 +149,8 @@ fn refused_files() -> Vec<(u32, usize, Vec<u8>)> {
         (1, 0, whole[..10].to_vec()),
         (1, 0, whole[..11].to_vec()),
         (1, 0, [&whole[..], &[0]].concat()),
+        // As long as if the records had no marks.
+        (1, 0, whole[..whole.len() - good.len()].to_vec()),
         (2, 0, file(size, 1, 0, &good)),
         (3, 0, many.pack(0).to_vec()),
         (4, 1, with(1, |p| p.mass = 0)),

@@ -82,7 +82,7 @@ impl Header {
 }
 
 /// Reads a file: the header's values. Refused: 1 shorter than 11; 2; 10; 18; 3; 17; 16 for either
-/// spare field; 1 length not 11 + 14·count; then the set.
+/// spare field; 1 length not 11 + 15·count; then the set.
 pub fn read_file(file: &[u8]) -> Result<Header, Refusal> {
     require(file.len() >= HEADER_LENGTH, LENGTH, 0)?;
     let [nx, ny, gx, gy, count, steps, first, kind, width, drag, last] =

@@ -1,5 +1,5 @@
-//! Demand 3 in whole numbers: sums of a list of calls, everything multiplied by 2^35. What drag and
-//! rim change at the nodes is counted with gravity.
+//! Demand 3 in whole numbers: what a list of calls keeps, and its sums, everything multiplied by 2^35.
+//! What drag and rim change at the nodes is counted with gravity.
 
 use crate::edge::Edge;
 use crate::grid::{Grid, Settings, Size};
@@ -63,8 +63,8 @@ impl NodeChanges {
 /// The start of a list of calls and the completed steps so far.
 #[derive(Clone, Debug)]
 pub struct Ledger {
-    /// Identifiers and masses at the start, in order.
-    kept: Vec<(u16, i128)>,
+    /// Identifiers, masses and marks at the start, in order.
+    kept: Vec<(u16, i128, u8)>,
     start: Totals,
     /// Number of completed steps.
     pub completed: i128,
@@ -76,9 +76,10 @@ pub struct Ledger {
     places: i128,
 }
 
-/// Identifiers and masses in order.
-fn kept(particles: &[Particle]) -> Vec<(u16, i128)> {
-    particles.iter().map(|p| (p.identifier, p.mass)).collect()
+/// Identifiers, masses and marks in order.
+fn kept(particles: &[Particle]) -> Vec<(u16, i128, u8)> {
+    let kept = particles.iter().map(|p| (p.identifier, p.mass, p.marks));
+    kept.collect()
 }
 
 impl Ledger {
@@ -113,7 +114,7 @@ impl Ledger {
     /// What the particles after the list break of demand 3, if anything.
     pub fn check(&self, after: &[Particle]) -> Result<(), String> {
         if kept(after) != self.kept {
-            return Err("identifiers or masses changed".into());
+            return Err("identifiers, masses or marks changed".into());
         }
         let (start, end) = (self.start, Totals::of(after));
         let allowance = ROUNDING * self.completed * start.mass;

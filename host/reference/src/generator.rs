@@ -52,6 +52,12 @@ impl Generator {
         Edge::ALL[self.between(0, Edge::ALL.len() as i128 - 1) as usize]
     }
 
+    /// Marks, ends included.
+    pub fn marks(&mut self) -> u8 {
+        let marks = self.between(0, 255);
+        self.one_of(&[0, 255, marks, marks, marks, marks]) as u8
+    }
+
     /// At most this many particles of an accepted set, velocities and B up to the given sizes.
     pub fn particles(&mut self, size: Size, count: usize, v: i128, b: i128) -> Vec<Particle> {
         assert!(v <= MAX_VELOCITY && b <= MAX_B);
@@ -63,7 +69,8 @@ impl Generator {
             let y = self.between(MIN_PLACE, SPACING * (size.ny - 1) - 33);
             let particle = Particle::at_rest(identifier as u16, self.between(1, heaviest), x, y)
                 .moving(self.between(-v, v), self.between(-v, v))
-                .with_b(std::array::from_fn(|_| self.between(-b, b)));
+                .with_b(std::array::from_fn(|_| self.between(-b, b)))
+                .with_marks(self.marks());
             particles.push(particle);
             identifier += self.between(1, 15);
         }

@@ -1,5 +1,5 @@
 //! Two-dimensional APIC with the quadratic B-spline in whole numbers: the whole of document 01 with
-//! document 02's Papers 1, 3, 4 and 5, written from the documents, as literal sums over all particles
+//! document 02's Papers 1 and 3 to 6, written from the documents, as literal sums over all particles
 //! and all nodes.
 //!
 //! | module | operations |
@@ -12,7 +12,7 @@
 //! | [`simulation`] | step, run |
 //! | [`bath_file`] | read a file, write a header |
 //! | [`report`] | the program's text |
-//! | [`conservation`] | the sums and allowances of demand 3 |
+//! | [`conservation`] | what demand 3 keeps, its sums and allowances |
 //! | [`generator`] | seeded numbers for samples and tests |
 //!
 //! Numbers a caller may choose freely are `i128`, so that every value of every narrower type can be

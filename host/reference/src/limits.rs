@@ -14,13 +14,13 @@ pub const MIN_OFFSET: i128 = -32;
 pub const MAX_OFFSET: i128 = 31;
 
 /// Bytes of a particle record.
-pub const RECORD_LENGTH: usize = 14;
+pub const RECORD_LENGTH: usize = 15;
 /// Bytes of a bath file's header.
 pub const HEADER_LENGTH: usize = 11;
 /// Most records of a set.
 pub const MAX_RECORDS: i128 = 4096;
 /// Most bytes of a set.
-pub const MAX_SET_LENGTH: usize = 57_344;
+pub const MAX_SET_LENGTH: usize = 61_440;
 
 /// Least mass of a particle.
 pub const MIN_MASS: i128 = 1;

@@ -1,11 +1,11 @@
-//! Particle records: 14 bytes that hold one particle.
+//! Particle records: 15 bytes that hold one particle.
 
 use crate::bits::{pack, unpack, Field};
 use crate::limits::{MAX_B, MAX_COORDINATE, MAX_MASS, MAX_VELOCITY, MIN_MASS, RECORD_LENGTH};
 use crate::refusal::{require, within, Refusal, AFFINE, LENGTH, MASS, PLACE, VELOCITY};
 
 /// The fields of a particle record in their order.
-pub const LAYOUT: [Field; 10] = [
+pub const LAYOUT: [Field; 11] = [
     Field::unsigned("identifier", 16),
     Field::unsigned("mass", 10),
     Field::unsigned("x", 12),
@@ -16,6 +16,7 @@ pub const LAYOUT: [Field; 10] = [
     Field::signed("Bxy", 12),
     Field::signed("Byx", 12),
     Field::signed("Byy", 12),
+    Field::unsigned("marks", 8),
 ];
 
 /// One particle. Numbers out of range can be written down; the operations refuse them.
@@ -41,10 +42,12 @@ pub struct Particle {
     pub byx: i128,
     /// B, velocity axis y, offset axis y.
     pub byy: i128,
+    /// Count of marks.
+    pub marks: u8,
 }
 
 impl Particle {
-    /// A particle at rest with B zero.
+    /// A particle at rest with B zero and no marks.
     pub fn at_rest(identifier: u16, mass: i128, x: i128, y: i128) -> Self {
         Particle {
             identifier,
@@ -57,6 +60,7 @@ impl Particle {
             bxy: 0,
             byx: 0,
             byy: 0,
+            marks: 0,
         }
     }
 
@@ -76,24 +80,29 @@ impl Particle {
         }
     }
 
+    /// The same particle with so many marks.
+    pub fn with_marks(self, marks: u8) -> Self {
+        Particle { marks, ..self }
+    }
+
     /// The entries of B as Bxx, Bxy, Byx, Byy.
     pub fn b(&self) -> [i128; 4] {
         [self.bxx, self.bxy, self.byx, self.byy]
     }
 
     /// The fields in the record's order.
-    pub fn fields(&self) -> [i128; 10] {
+    pub fn fields(&self) -> [i128; 11] {
         let [bxx, bxy, byx, byy] = self.b();
-        let identifier = self.identifier.into();
+        let (identifier, marks) = (self.identifier.into(), self.marks.into());
         let Particle {
             mass, x, y, vx, vy, ..
         } = *self;
-        [identifier, mass, x, y, vx, vy, bxx, bxy, byx, byy]
+        [identifier, mass, x, y, vx, vy, bxx, bxy, byx, byy, marks]
     }
 
-    /// The particle that 14 bytes hold, in range or not.
+    /// The particle that 15 bytes hold, in range or not.
     pub fn unpack(record: &[u8; RECORD_LENGTH]) -> Self {
-        let [identifier, mass, x, y, vx, vy, bxx, bxy, byx, byy] = unpack(&LAYOUT, record);
+        let [identifier, mass, x, y, vx, vy, bxx, bxy, byx, byy, marks] = unpack(&LAYOUT, record);
         Particle {
             identifier: identifier as u16,
             mass,
@@ -105,10 +114,11 @@ impl Particle {
             bxy,
             byx,
             byy,
+            marks: marks as u8,
         }
     }
 
-    /// The low bits of each field as 14 bytes, in range or not.
+    /// The low bits of each field as 15 bytes, in range or not.
     pub fn pack(&self) -> [u8; RECORD_LENGTH] {
         let mut record = [0; RECORD_LENGTH];
         pack(&LAYOUT, &self.fields(), &mut record);

@@ -5,7 +5,7 @@ use crate::limits::{D, MAX_SET_LENGTH, MAX_TOTAL_MASS, RECORD_LENGTH};
 use crate::particle::{read_record, Particle};
 use crate::refusal::{require, Refusal, IDENTIFIER, LENGTH, PLACE, TOTAL_MASS};
 
-/// Refuses 1 where the length is not a multiple of 14 or above 57,344.
+/// Refuses 1 where the length is not a multiple of 15 or above 61,440.
 pub(crate) fn check_length(records: &[u8]) -> Result<(), Refusal> {
     let whole = records.len().is_multiple_of(RECORD_LENGTH);
     require(whole && records.len() <= MAX_SET_LENGTH, LENGTH, 0)
@@ -60,6 +60,8 @@ pub struct Totals {
     pub angular_momentum: i128,
     /// Sum of m·(1024·(vx² + vy²) + Bxx² + Bxy² + Byx² + Byy²), document 02's motion.
     pub motion: i128,
+    /// Sum of marks.
+    pub marks: i128,
 }
 
 impl Totals {
@@ -76,7 +78,21 @@ impl Totals {
                 let turning = p.bxx.pow(2) + p.bxy.pow(2) + p.byx.pow(2) + p.byy.pow(2);
                 p.mass * (D * straight + turning)
             }),
+            marks: sum(|p| p.marks.into()),
         }
+    }
+
+    /// The sums in the order in which they are handed out and printed.
+    pub fn values(&self) -> [i128; 6] {
+        let Totals {
+            mass,
+            px,
+            py,
+            angular_momentum,
+            motion,
+            marks,
+        } = *self;
+        [mass, px, py, angular_momentum, motion, marks]
     }
 }
 

@@ -38,10 +38,11 @@ fn run_report(sums: Sums, header: Header, mut records: Vec<u8>) -> String {
 /// The lines for a run's answer and the particles it left.
 pub fn report(answer: RunAnswer, particles: &[Particle]) -> String {
     let Refusal { number, place } = answer.refusal.unwrap_or(Refusal::at(0, 0));
-    let totals = Totals::of(particles);
+    let [mass, px, py, spin, motion, marks] = Totals::of(particles).values();
     let mut text = format!(
-        "done {} refusal {number} at {place}\nmass {} px {} py {} spin {} motion {}\n",
-        answer.completed, totals.mass, totals.px, totals.py, totals.angular_momentum, totals.motion
+        "done {} refusal {number} at {place}\n\
+         mass {mass} px {px} py {py} spin {spin} motion {motion} marks {marks}\n",
+        answer.completed
     );
     for particle in particles {
         let fields = particle.fields().map(|field| field.to_string());

@@ -7,7 +7,7 @@ use reference::{Grid, Particle, Settings, Size};
 
 const MOMENTUM: &str = "momentum";
 const ANGULAR: &str = "angular momentum";
-const KEPT: &str = "identifiers or masses";
+const KEPT: &str = "identifiers, masses or marks";
 
 /// Gravity on both axes; the ledger does not look at the size.
 fn gravity(gx: i128, gy: i128) -> Settings {
@@ -18,9 +18,15 @@ fn gravity(gx: i128, gy: i128) -> Settings {
 /// torques and allowances are whole numbers.
 fn start() -> [Particle; 3] {
     [
-        Particle::at_rest(3, 1, 320, 160).moving(5, -7),
-        Particle::at_rest(5, 11, 64, 32).with_b([1, -2, 3, -4]),
-        Particle::at_rest(9, 500, 128, 256).moving(-1, 2),
+        Particle::at_rest(3, 1, 320, 160)
+            .moving(5, -7)
+            .with_marks(200),
+        Particle::at_rest(5, 11, 64, 32)
+            .with_b([1, -2, 3, -4])
+            .with_marks(0),
+        Particle::at_rest(9, 500, 128, 256)
+            .moving(-1, 2)
+            .with_marks(77),
     ]
 }
 
@@ -214,8 +220,10 @@ fn angular_momentum_in_512ths() {
 
 /// Particles at rest, whose sums of momentum are all 0, and a ledger with many steps.
 fn resting() -> (Vec<Particle>, Ledger) {
-    let masses = [(3, 4), (5, 4), (9, 11)];
-    let set = masses.map(|(identifier, mass)| Particle::at_rest(identifier, mass, 100, 100));
+    let kept = [(3, 4, 20), (5, 4, 255), (9, 11, 20)];
+    let set = kept.map(|(identifier, mass, marks)| {
+        Particle::at_rest(identifier, mass, 100, 100).with_marks(marks)
+    });
     let steps = [(&set[..], gravity(0, 0)); 100];
     (set.to_vec(), ledger(&set, &steps))
 }
@@ -247,6 +255,27 @@ fn masses_are_kept_in_order() {
         let mut after = set.clone();
         for (p, mass) in after.iter_mut().zip(masses) {
             p.mass = mass;
+        }
+        expect_of(&ledger, &after, Some(KEPT));
+    }
+}
+
+/// Marks that are exchanged, or moved from one to another, keep their sum.
+#[test]
+fn marks_are_kept_in_order() {
+    let (set, ledger) = resting();
+    for marks in [
+        [20, 20, 255],
+        [255, 20, 20],
+        [19, 255, 21],
+        [21, 254, 20],
+        [20, 255, 19],
+        [20, 0, 20],
+        [0, 0, 0],
+    ] {
+        let mut after = set.clone();
+        for (p, marks) in after.iter_mut().zip(marks) {
+            p.marks = marks;
         }
         expect_of(&ledger, &after, Some(KEPT));
     }

@@ -1,5 +1,5 @@
-//! Document 01's examples, starred and not, with document 02's rounding; the printed one with its header
-//! and motion.
+//! Document 01's examples, starred and not, with document 02's rounding; the printed one with its header,
+//! motion and marks.
 
 use reference::particle_set::{pack_records, particles};
 use reference::{check_set, program, scatter, step, totals, update, weights};
@@ -96,11 +96,11 @@ fn masses_one_and_two_at_one_place() {
 fn printed_program_example() {
     let input = [
         0x10, 0x40, 0x00, 0x00, 0x00, 0x00, 0x08, 0x00, 0x20, 0x00, 0x00, 0x00, 0x07, 0x00, 0x81,
-        0x00, 0x10, 0x01, 0xFE, 0x00, 0x00, 0x00, 0x00, 0x00, 0x00,
+        0x00, 0x10, 0x01, 0xFE, 0x00, 0x00, 0x00, 0x00, 0x00, 0x00, 0x00,
     ];
     let output = "done 1 refusal 0 at 0\n\
-                  mass 2 px 6 py -4 spin -640 motion 26624\n\
-                  7 2 67 62 3 -2 0 0 0 0\n";
+                  mass 2 px 6 py -4 spin -640 motion 26624 marks 0\n\
+                  7 2 67 62 3 -2 0 0 0 0 0\n";
     assert_eq!(program(&input).as_bytes(), output.as_bytes());
 }
 
@@ -112,7 +112,7 @@ fn program_on_refused_and_empty_files() {
     let empty = [0x10, 0x40, 0, 0, 0, 0, 0, 0, 0x60, 0, 0];
     assert_eq!(
         program(&empty),
-        "done 3 refusal 0 at 0\nmass 0 px 0 py 0 spin 0 motion 0\n"
+        "done 3 refusal 0 at 0\nmass 0 px 0 py 0 spin 0 motion 0 marks 0\n"
     );
 }
 
@@ -173,10 +173,12 @@ fn totals_by_hand() {
     let records = pack_records(&[
         Particle::at_rest(1, 3, 100, 50)
             .moving(-2, 4)
-            .with_b([10, 20, 30, 40]),
+            .with_b([10, 20, 30, 40])
+            .with_marks(250),
         Particle::at_rest(2, 5, 60, 90)
             .moving(1, 0)
-            .with_b([9, 8, -7, 6]),
+            .with_b([9, 8, -7, 6])
+            .with_marks(13),
     ]);
     let expected = Totals {
         mass: 8,
@@ -184,6 +186,7 @@ fn totals_by_hand() {
         py: 12,
         angular_momentum: 1530 - 525,
         motion: 3 * (1024 * 20 + 3000) + 5 * (1024 + 230),
+        marks: 250 + 13,
     };
     assert_eq!(totals(SMALL, &records), Ok(expected));
     assert_eq!(totals(SMALL, &[]), Ok(Totals::default()));

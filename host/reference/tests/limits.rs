@@ -1,5 +1,6 @@
 //! Every limit at its edge and one beyond.
 
+use reference::limits::{HEADER_LENGTH, MAX_SET_LENGTH, RECORD_LENGTH};
 use reference::particle_set::pack_records;
 use reference::{adding_scatter, check_set, gather, program, read_file, read_record, run, scatter};
 use reference::{step, update, write_header, write_record};
@@ -17,12 +18,12 @@ fn refused<T>(number: u32) -> Result<T, Refusal> {
 
 /// Writing answers with this number (0 where it is accepted); what is written reads back.
 fn expect_written(particle: Particle, number: u32) {
-    let mut buffer = [0xA5; 14];
+    let mut buffer = [0xA5; RECORD_LENGTH];
     let answer = write_record(&particle, &mut buffer);
     if number == 0 {
         assert_eq!((answer, read_record(&buffer)), (Ok(()), Ok(particle)));
     } else {
-        assert_eq!((answer, buffer), (refused(number), [0xA5; 14]));
+        assert_eq!((answer, buffer), (refused(number), [0xA5; RECORD_LENGTH]));
     }
 }
 
@@ -62,6 +63,9 @@ fn fields_of_a_written_record() {
     }
     for identifier in [0, 1, u16::MAX] {
         expect_written(at(identifier), 0);
+    }
+    for marks in [0, 1, u8::MAX] {
+        expect_written(at(0).with_marks(marks), 0);
     }
 }
 
@@ -104,7 +108,12 @@ fn number_of_records() {
     assert_eq!(check_set(SMALL, &[]), Ok(0));
     assert_eq!(check_set(SMALL, &many(4096)), Ok(4096));
     assert_eq!(check_set(SMALL, &many(4097)), refused(1));
-    assert_eq!(check_set(SMALL, &many(4096)[..57_343]), refused(1));
+    let most = many(4096);
+    assert_eq!(most.len(), MAX_SET_LENGTH);
+    for fewer in 1..RECORD_LENGTH {
+        let cut = &most[..MAX_SET_LENGTH - fewer];
+        assert_eq!(check_set(SMALL, cut), refused(1));
+    }
 }
 
 #[test]
@@ -150,7 +159,7 @@ fn expect_settings(settings: Settings, expected: Result<(), Refusal>) {
         count: 0,
         steps: 1,
     };
-    let mut file = [0; 11];
+    let mut file = [0; HEADER_LENGTH];
     assert_eq!(write_header(&header, &mut file), expected);
     assert_eq!(read_file(&file).ok(), expected.is_ok().then_some(header));
 }
@@ -561,11 +570,14 @@ fn file(nx: i128, count: i128, steps: i128, spare: i128, length: usize) -> Vec<u
 
 #[test]
 fn files() {
+    let one = HEADER_LENGTH + RECORD_LENGTH;
+    let most = HEADER_LENGTH + MAX_SET_LENGTH;
     assert_eq!(
-        read_file(&file(4, 4096, 10_000, 0, 57_355)).unwrap().count,
+        read_file(&file(4, 4096, 10_000, 0, most)).unwrap().count,
         4096
     );
-    assert_eq!(read_file(&file(4, 4097, 10_000, 0, 57_369)), refused(3));
+    let beyond = most + RECORD_LENGTH;
+    assert_eq!(read_file(&file(4, 4097, 10_000, 0, beyond)), refused(3));
     assert_eq!(read_file(&file(4, 8191, 16_383, 511, 11)), refused(3));
     assert_eq!(read_file(&file(4, 0, 10_001, 511, 11)), refused(17));
     assert_eq!(
@@ -574,9 +586,9 @@ fn files() {
     );
     assert_eq!(read_file(&file(63, 0, 10_000, 0, 11)), refused(2));
     for bit in 0..9 {
-        assert_eq!(read_file(&file(4, 1, 1, 1 << bit, 24)), refused(16));
+        assert_eq!(read_file(&file(4, 1, 1, 1 << bit, one - 1)), refused(16));
     }
-    for length in [9, 10, 11, 24, 26, 39] {
+    for length in [9, 10, 11, one - 1, one + 1, one + RECORD_LENGTH] {
         assert_eq!(read_file(&file(4, 1, 1, 0, length)), refused(1));
     }
     assert_eq!(program(&file(4, 1, 1, 0, 100_000)), "refused 1 at 0\n");

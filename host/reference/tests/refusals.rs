@@ -27,6 +27,7 @@ fn accepted_call() -> Call {
     let size = Size::new(4, 5);
     let mut particles: Vec<Particle> = (0..=FAULTY as u16)
         .map(|identifier| Particle::at_rest(identifier, 1023, 100, 100))
+        .map(|particle| particle.with_marks(251_u8.wrapping_sub(particle.identifier as u8)))
         .collect();
     particles[FAULTY].mass = 128;
     Call {
@@ -314,6 +315,7 @@ fn record_refusals() {
         ..Particle::at_rest(5, 1, 4095, 0)
             .moving(-64, 0)
             .with_b([0, 0, -2048, 0])
+            .with_marks(130)
     };
     let mended = [
         (broken, Some(4)),
@@ -340,7 +342,7 @@ fn record_refusals() {
             None,
         ),
     ];
-    for length in [0, 13, 15, 28] {
+    for length in [0, RECORD_LENGTH - 1, RECORD_LENGTH + 1, 2 * RECORD_LENGTH] {
         assert_eq!(read_record(&vec![0; length]), Err(Refusal::at(1, 0)));
     }
     for (particle, number) in mended {
@@ -353,7 +355,8 @@ fn record_refusals() {
 fn write_refusals() {
     let good = Particle::at_rest(5, 1023, 4095, 0)
         .moving(63, -63)
-        .with_b([2047, -2047, 0, 1]);
+        .with_b([2047, -2047, 0, 1])
+        .with_marks(77);
     let x = Particle { x: 4096, ..good };
     let y = Particle { y: -1, ..x };
     let affine = Particle { byy: 2048, ..y };
@@ -368,7 +371,7 @@ fn write_refusals() {
         let answer = write_record(&particle, &mut buffer);
         assert_eq!(answer, Err(Refusal::at(number, 0)));
         assert_eq!(buffer, [0xA5; RECORD_LENGTH]);
-        for length in [0, 13, 15] {
+        for length in [0, RECORD_LENGTH - 1, RECORD_LENGTH + 1] {
             let mut buffer = vec![0xA5; length];
             let answer = write_record(&particle, &mut buffer);
             assert_eq!(answer, Err(Refusal::at(1, 0)));

@@ -1,16 +1,23 @@
 //! Records and headers read and write back bit for bit.
 
 use reference::bath_file::LAYOUT as HEADER;
-use reference::bits::unpack;
+use reference::bits::{unpack, Field};
 use reference::generator::Generator;
+use reference::limits::{HEADER_LENGTH, RECORD_LENGTH};
 use reference::particle::LAYOUT as RECORD;
 use reference::{read_file, read_record, write_header, write_record};
 use reference::{Edge, Header, Particle, Settings, Size};
 
 #[test]
 fn layouts_fill_their_bytes() {
-    assert_eq!(RECORD.map(|field| field.bits).iter().sum::<u32>(), 14 * 8);
-    assert_eq!(HEADER.map(|field| field.bits).iter().sum::<u32>(), 11 * 8);
+    let bits = |layout: &[Field]| {
+        layout
+            .iter()
+            .map(|field| field.bits as usize)
+            .sum::<usize>()
+    };
+    assert_eq!(bits(&RECORD), 8 * RECORD_LENGTH);
+    assert_eq!(bits(&HEADER), 8 * HEADER_LENGTH);
 }
 
 #[test]
@@ -18,11 +25,11 @@ fn records_from_bytes() {
     let mut generator = Generator::new(1);
     let mut accepted = 0;
     for _ in 0..20_000 {
-        let record: [u8; 14] = std::array::from_fn(|_| generator.bits() as u8);
+        let record: [u8; RECORD_LENGTH] = std::array::from_fn(|_| generator.bits() as u8);
         let Ok(particle) = read_record(&record) else {
             continue;
         };
-        let mut again = [0; 14];
+        let mut again = [0; RECORD_LENGTH];
         assert_eq!(write_record(&particle, &mut again), Ok(()));
         assert_eq!(again, record);
         accepted += 1;
@@ -42,23 +49,24 @@ fn records_from_numbers() {
             numbers(0, 4095),
         )
         .moving(numbers(-63, 63), numbers(-63, 63))
-        .with_b(std::array::from_fn(|_| numbers(-2047, 2047)));
-        let mut record = [0; 14];
+        .with_b(std::array::from_fn(|_| numbers(-2047, 2047)))
+        .with_marks(numbers(0, 255) as u8);
+        let mut record = [0; RECORD_LENGTH];
         assert_eq!(write_record(&particle, &mut record), Ok(()));
         assert_eq!(read_record(&record), Ok(particle));
     }
 }
 
-/// A record as one number of 112 bits, its fields cut off from the top.
+/// A record as one number of 120 bits, its fields cut off from the top.
 #[test]
 fn records_as_one_number() {
     let mut generator = Generator::new(3);
     for _ in 0..5_000 {
-        let record: [u8; 14] = std::array::from_fn(|_| generator.bits() as u8);
+        let record: [u8; RECORD_LENGTH] = std::array::from_fn(|_| generator.bits() as u8);
         let whole = record
             .iter()
             .fold(0_u128, |n, &byte| n << 8 | u128::from(byte));
-        let mut left = 112;
+        let mut left = 8 * RECORD_LENGTH as u32;
         for (field, value) in RECORD.iter().zip(unpack(&RECORD, &record)) {
             left -= field.bits;
             let bits = (whole >> left & ((1 << field.bits) - 1)) as i128;
@@ -90,7 +98,7 @@ fn headers() {
             steps: generator.between(0, 10_000),
         };
         assert_eq!(Header::of(header.values()), header);
-        let mut file = [0xFF; 11];
+        let mut file = [0xFF; HEADER_LENGTH];
         assert_eq!(write_header(&header, &mut file), Ok(()));
         assert_eq!(read_file(&file), Ok(header));
     }
@@ -101,7 +109,7 @@ fn accepted_headers_from_bytes() {
     let mut generator = Generator::new(5);
     let mut accepted = 0;
     for _ in 0..200_000 {
-        let mut file: [u8; 11] = std::array::from_fn(|_| generator.bits() as u8);
+        let mut file: [u8; HEADER_LENGTH] = std::array::from_fn(|_| generator.bits() as u8);
         file[5] = 0;
         file[6] &= 0x07;
         file[8] &= 0xE0;
@@ -109,7 +117,7 @@ fn accepted_headers_from_bytes() {
         let Ok(header) = read_file(&file) else {
             continue;
         };
-        let mut again = [0; 11];
+        let mut again = [0; HEADER_LENGTH];
         assert_eq!(write_header(&header, &mut again), Ok(()));
         assert_eq!(again, file);
         accepted += 1;

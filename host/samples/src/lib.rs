@@ -55,6 +55,15 @@ fn bath_file(settings: Settings, steps: i128, particles: &[Particle]) -> Vec<u8>
     file
 }
 
+/// A bath file of particles with marks, which their places in the file decide: from 0 to 255, without
+/// order.
+fn marked_file(settings: Settings, steps: i128, particles: &[Particle]) -> Vec<u8> {
+    let marks = |k: usize| (73 * (k + 1) * (k + 2) / 2) as u8;
+    let marked = particles.iter().enumerate();
+    let marked = marked.map(|(k, particle)| particle.with_marks(marks(k)));
+    bath_file(settings, steps, &marked.collect::<Vec<_>>())
+}
+
 /// Settings without gravity.
 fn weightless(nx: i128, ny: i128) -> Settings {
     Settings::new(Size::new(nx, ny), 0, 0)
@@ -88,7 +97,7 @@ fn refused() -> Sample {
     ];
     Sample {
         name: "refused",
-        file: bath_file(weightless(8, 8), 100, &particles),
+        file: marked_file(weightless(8, 8), 100, &particles),
     }
 }
 
@@ -101,7 +110,7 @@ fn spinning() -> Sample {
     ];
     Sample {
         name: "spinning",
-        file: bath_file(weightless(9, 8), 1_000, &particles),
+        file: marked_file(weightless(9, 8), 1_000, &particles),
     }
 }
 
@@ -133,7 +142,7 @@ fn spreading() -> Sample {
     }
     Sample {
         name: "spreading",
-        file: bath_file(weightless(3 * CELLS, 3 * CELLS), 5_000, &particles),
+        file: marked_file(weightless(3 * CELLS, 3 * CELLS), 5_000, &particles),
     }
 }
 
@@ -177,7 +186,7 @@ fn leaving() -> Sample {
     let particles = whirl(11, (320, 240), (736, 736), 0, 16);
     Sample {
         name: "leaving",
-        file: bath_file(weightless(24, 24), 1_000, &particles),
+        file: marked_file(weightless(24, 24), 1_000, &particles),
     }
 }
 
@@ -205,7 +214,7 @@ fn thrown() -> Sample {
     let settings = Settings::new(Size::new(26, 11), -200, -260);
     Sample {
         name: "thrown",
-        file: bath_file(settings, 34, &flock(15, 90, (500, 260), (20, 16))),
+        file: marked_file(settings, 34, &flock(15, 90, (500, 260), (20, 16))),
     }
 }
 
@@ -214,7 +223,7 @@ fn falling() -> Sample {
     let settings = Settings::new(Size::new(9, 48), 60, -250);
     Sample {
         name: "falling",
-        file: bath_file(settings, 200, &flock(17, 70, (220, 2800), (1, 0))),
+        file: marked_file(settings, 200, &flock(17, 70, (220, 2800), (1, 0))),
     }
 }
 
@@ -236,7 +245,7 @@ fn full() -> Sample {
     let settings = Settings::new(Size::new(48, 48), 3, -5);
     Sample {
         name: "full",
-        file: bath_file(settings, 40, &particles),
+        file: marked_file(settings, 40, &particles),
     }
 }
 
@@ -247,7 +256,7 @@ fn sticky() -> Sample {
     let particles = whirl(19, (200, 80), (640, 420), 34, 26);
     Sample {
         name: "sticky",
-        file: bath_file(settings, 300, &particles),
+        file: marked_file(settings, 300, &particles),
     }
 }
 
@@ -257,7 +266,7 @@ fn drag() -> Sample {
     let particles = whirl(23, (250, 90), (1000, 900), 64, 102);
     Sample {
         name: "drag",
-        file: bath_file(settings, 240, &particles),
+        file: marked_file(settings, 240, &particles),
     }
 }
 
@@ -268,6 +277,6 @@ fn still() -> Sample {
     let particles = whirl(29, (180, 60), (390, 280), 0, 0);
     Sample {
         name: "still",
-        file: bath_file(settings, 5_000, &particles),
+        file: marked_file(settings, 5_000, &particles),
     }
 }

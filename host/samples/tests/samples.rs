@@ -1,7 +1,9 @@
 //! What each sample shows.
 
+use std::collections::BTreeSet;
+
 use reference::conservation::{Ledger, NodeChanges};
-use reference::limits::HEADER_LENGTH;
+use reference::limits::{HEADER_LENGTH, RECORD_LENGTH};
 use reference::particle_set::{pack_records, particles, Totals};
 use reference::report::program_by;
 use reference::simulation::run_by;
@@ -42,8 +44,9 @@ fn run_changed(name: &str, change: fn(Settings) -> Settings) -> Ran {
     (settings, before, after, answer)
 }
 
-fn kept(particles: &[Particle]) -> Vec<(u16, i128)> {
-    particles.iter().map(|p| (p.identifier, p.mass)).collect()
+fn kept(particles: &[Particle]) -> Vec<(u16, i128, u8)> {
+    let kept = particles.iter().map(|p| (p.identifier, p.mass, p.marks));
+    kept.collect()
 }
 
 fn moving(particles: &[Particle]) -> usize {
@@ -205,12 +208,39 @@ fn still_rests_under_half_a_unit() {
 #[test]
 fn small_ones_print_this() {
     let printed = "done 1 refusal 0 at 0\n\
-                   mass 2 px 6 py -4 spin -640 motion 26624\n\
-                   7 2 67 62 3 -2 0 0 0 0\n";
+                   mass 2 px 6 py -4 spin -640 motion 26624 marks 0\n\
+                   7 2 67 62 3 -2 0 0 0 0 0\n";
     assert_eq!(sample("printed").expected_output(), printed);
-    let empty = "done 10 refusal 0 at 0\nmass 0 px 0 py 0 spin 0 motion 0\n";
+    let empty = "done 10 refusal 0 at 0\nmass 0 px 0 py 0 spin 0 motion 0 marks 0\n";
     assert_eq!(sample("empty").expected_output(), empty);
     assert_eq!(sample("refused").expected_output(), "refused 8 at 2\n");
+}
+
+/// The marks of a sample's records, in range or not, each with its identifier.
+fn marks(sample: &Sample) -> Vec<(u16, u8)> {
+    let records = sample.file[HEADER_LENGTH..].chunks(RECORD_LENGTH);
+    let particle = |record: &[u8]| Particle::unpack(record.try_into().expect("a record"));
+    let particles = records.map(particle);
+    particles.map(|p| (p.identifier, p.marks)).collect()
+}
+
+#[test]
+fn marks_are_varied() {
+    for sample in samples() {
+        let marks = marks(&sample);
+        match sample.name {
+            "printed" => assert_eq!(marks, [(7, 0)]),
+            "empty" => assert_eq!(marks, []),
+            name => {
+                let copied = |&(identifier, marks): &(u16, u8)| identifier % 256 == marks.into();
+                assert!(!marks.iter().all(copied), "{name}");
+                let differing: BTreeSet<u8> = marks.iter().map(|record| record.1).collect();
+                assert!(2 * differing.len() > marks.len().min(256), "{name}");
+            }
+        }
+    }
+    let full: BTreeSet<u8> = marks(&sample("full")).iter().map(|r| r.1).collect();
+    assert_eq!(full.len(), 256);
 }
 
 /// Every completed step by itself, and all of them together, keep to demand 3.

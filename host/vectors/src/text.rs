@@ -87,11 +87,10 @@ impl Display for Answer {
             Answer::Done => write!(f, "ok"),
             Answer::Particle(particle) => write!(f, "ok {}", particle_text(particle)),
             Answer::Count(count) => write!(f, "ok {count}"),
-            Answer::Totals(t) => write!(
-                f,
-                "ok mass {} px {} py {} spin {} motion {}",
-                t.mass, t.px, t.py, t.angular_momentum, t.motion
-            ),
+            Answer::Totals(totals) => {
+                let names = ["mass", "px", "py", "spin", "motion", "marks"];
+                write!(f, "ok {}", named(names, totals.values()))
+            }
             Answer::Weights([lower, nearest, upper]) => write!(f, "ok {lower} {nearest} {upper}"),
             Answer::Ran(RunAnswer { completed, refusal }) => {
                 let (number, place) = refusal.map_or((0, 0), |r| (r.number, r.place));
@@ -141,10 +140,34 @@ fn numbers_text<T: PartialEq + Copy + Display>(numbers: &[T]) -> String {
     or_none(words.collect::<Vec<_>>().join(","))
 }
 
-/// Whether b is a with the next identifier.
-fn follows(a: &Particle, b: &Particle) -> bool {
-    let identifier = b.identifier;
-    a.identifier.checked_add(1) == Some(identifier) && Particle { identifier, ..*a } == *b
+/// The particle with the next identifier and so many marks more.
+fn next(particle: &Particle, more: u8) -> Option<Particle> {
+    Some(Particle {
+        identifier: particle.identifier.checked_add(1)?,
+        marks: particle.marks.checked_add(more)?,
+        ..*particle
+    })
+}
+
+/// How many of the first particles differ in their rising identifiers alone, or in marks that rise with
+/// them.
+fn group_length(particles: &[Particle]) -> usize {
+    let rising = |more: u8| {
+        let follows = |pair: &&[Particle]| next(&pair[0], more) == Some(pair[1]);
+        1 + particles.windows(2).take_while(follows).count()
+    };
+    rising(0).max(rising(1))
+}
+
+/// A word for each group.
+fn groups(mut particles: &[Particle]) -> Vec<String> {
+    let mut words = Vec::new();
+    while !particles.is_empty() {
+        let (group, others) = particles.split_at(group_length(particles));
+        words.push(group_text(group));
+        particles = others;
+    }
+    words
 }
 
 fn records_text(bytes: &[u8]) -> String {
@@ -153,7 +176,7 @@ fn records_text(bytes: &[u8]) -> String {
     let particles: Vec<Particle> = records
         .map(|record| Particle::unpack(record.try_into().expect("a whole record")))
         .collect();
-    let groups: Vec<String> = particles.chunk_by(follows).map(group_text).collect();
+    let groups = groups(&particles);
     let equal = groups.chunk_by(|a, b| a == b);
     let mut words: Vec<String> = equal
         .map(|run| run_text(run[0].clone(), run.len()))
@@ -164,16 +187,18 @@ fn records_text(bytes: &[u8]) -> String {
     or_none(words.join(" "))
 }
 
-/// Records that differ in their rising identifiers alone.
+/// Records that differ in rising identifiers and marks alone.
 fn group_text(group: &[Particle]) -> String {
-    let fields = group[0].fields().map(|field| field.to_string());
-    let last = group[group.len() - 1].identifier;
-    let last = if group.len() > 1 {
-        format!("..{last}")
-    } else {
-        String::new()
+    let [first, last] = [&group[0], &group[group.len() - 1]].map(Particle::fields);
+    let field = |(&first, &last): (&i128, &i128)| {
+        if first == last {
+            first.to_string()
+        } else {
+            format!("{first}..{last}")
+        }
     };
-    format!("[{}{last} {}]", fields[0], fields[1..].join(" "))
+    let fields: Vec<String> = first.iter().zip(&last).map(field).collect();
+    format!("[{}]", fields.join(" "))
 }
 
 /// A buffer's name and contents.

@@ -2,6 +2,7 @@
 
 use std::collections::{BTreeMap, BTreeSet};
 
+use reference::limits::RECORD_LENGTH;
 use vectors::{cases, Answer, Case, Operation};
 
 /// The refusals that documents 01 and 02 list for each operation.
@@ -69,6 +70,39 @@ fn every_operation_accepts_something() {
     }
 }
 
+/// The bytes of marks in records.
+fn marks(records: &[u8]) -> Vec<u8> {
+    let last = |record: &[u8]| record[RECORD_LENGTH - 1];
+    records.chunks_exact(RECORD_LENGTH).map(last).collect()
+}
+
+/// Gathers, steps and runs leave marks, whatever they answer; in each of these there are records with
+/// different ones that are moved, and such that are not.
+#[test]
+fn marks_are_left() {
+    let mut seen = BTreeSet::new();
+    for case in cases() {
+        let (Operation::Gather(_) | Operation::Step(_) | Operation::Run(..)) = case.operation
+        else {
+            continue;
+        };
+        let (before, after) = (marks(&case.before.bytes), marks(&case.after.bytes));
+        assert_eq!(after, before, "{}", case.name);
+        if before.windows(2).any(|pair| pair[0] != pair[1]) {
+            let moved = case.after.bytes != case.before.bytes;
+            let refused = case.answer.refusal().is_some();
+            seen.insert((group(&case).to_string(), moved, refused));
+        }
+    }
+    for operation in ["gather", "step", "run", "list"] {
+        for (moved, refused) in [(true, false), (false, true)] {
+            assert!(seen.contains(&(operation.to_string(), moved, refused)));
+        }
+    }
+    // A run that is stopped after some steps.
+    assert!(seen.contains(&("run".to_string(), true, true)));
+}
+
 /// Only a step that was tried may leave its grid with a refusal, and a run its completed steps.
 #[test]
 fn refused_calls_change_nothing() {
@@ -112,6 +146,9 @@ fn stopped_runs() {
     assert_eq!(completed("run/stopped-at-its-46th-step-by-15"), 45);
     assert_eq!(completed("run/stopped-at-its-64th-step-by-13"), 63);
     assert_eq!(completed("run/80-steps-open"), 54);
+    assert_eq!(completed("run/marks-stopped-by-13"), 56);
+    assert_eq!(completed("run/marks-stopped-by-15"), 45);
+    assert_eq!(completed("list/marks/4"), 32);
     assert_eq!(completed("list/held/9"), 16);
     assert_eq!(completed("run/0-steps-of-what-would-stop"), 0);
     assert_eq!(completed("run/10000-steps-of-nothing"), 10_000);

@@ -1,4 +1,4 @@
--- `gondwize_read_record` meets its contract. The values are the ten numbers of the particle. Assumes nothing.
+-- `gondwize_read_record` meets its contract. The values are the eleven numbers of the particle. Assumes nothing.
 use borrow.Author.Needs.{needs}
 use mathlib.Core.Path.{ap}
 use denote.Ref.{now}

@@ -1,9 +1,8 @@
--- `gondwize_totals` meets its contract. The values are the five sums, of which the mass is small. Assumes nothing.
+-- `gondwize_totals` meets its contract. The values are the six sums. Assumes nothing.
 use borrow.Author.Needs.{needs}
 use mathlib.Core.Path.{ap}
 use denote.Ref.{now}
 use Rattle.totals.specs.Totals.{toldTotalled}
-use Rattle.coding.proofs.Accepted.{light}
 use Rattle.coding.proofs.Coding.{gave, kept, place-of}
 use Rattle.coding.proofs.Places as places
 use Rattle.gondwize.proofs.gondwize_totals.Statement.{statement}
@@ -25,10 +24,8 @@ code-requires c κs =
 enum-known-t : tie.Need-enum-known-t
 enum-known-t c = search needs
 
-of-totals-requires : tie.Need-of-totals-requires
-of-totals-requires c κs =
-    let s = c .before .before .before .before .before in
-    light (s .args .nx) (s .args .ny) (now (s .args .records)) (c .before .before .before .set-totals .ensures) (ap toldTotalled (c .before .t .given .1))
+sums-of-requires : tie.Need-sums-of-requires
+sums-of-requires c κs = search needs
 
 returns : tie.Need-returns
 returns c =
@@ -36,7 +33,7 @@ returns c =
     kept (by .0 .0) (c .before .before .before .before .set-totals .ensures) (ap toldTotalled (by .1)) (c .code .ensures)
 
 returns-2 : tie.Need-returns-2
-returns-2 c = gave (c .before .before .before .before .set-totals .ensures) (ap toldTotalled (c .before .before .t .given .1)) (c .of-totals .ensures)
+returns-2 c = gave (c .before .before .before .before .set-totals .ensures) (ap toldTotalled (c .before .before .t .given .1)) (c .sums-of .ensures)
 
 pub gondwize-totals-spec : {M : Type 1} → statement M
 gondwize-totals-spec =
@@ -46,6 +43,6 @@ gondwize-totals-spec =
     enum-known-refusal
     code-requires
     enum-known-t
-    of-totals-requires
+    sums-of-requires
     returns
     returns-2)

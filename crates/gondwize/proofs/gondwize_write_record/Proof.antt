@@ -29,7 +29,7 @@ code-requires c κs =
     let w = rw (toZ-ofZ (f .vx), toZ-ofZ (f .vy), toZ-ofZ (f .bxx), toZ-ofZ (f .bxy), toZ-ofZ (f .byx), toZ-ofZ (f .byy)) at h in
     let a = s .args in
     place-of (c .before .refusal .given .0 .0) (e .0 ∙ w .answer bytes) (ap toldWritten (c .before .refusal .given .1))
-    (places.write (particleWith (a .identifier) (a .mass) (a .x) (a .y) (a .vx) (a .vy) (a .bxx) (a .bxy) (a .byx) (a .byy)) bytes)
+    (places.write (particleWith (a .identifier) (a .mass) (a .x) (a .y) (a .vx) (a .vy) (a .bxx) (a .bxy) (a .byx) (a .byy) (a .marks)) bytes)
 
 enum-told : tie.Need-enum-told
 enum-told c = search needs

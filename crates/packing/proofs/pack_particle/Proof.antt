@@ -7,10 +7,10 @@ use borrow.Rule.Slice.PartMut.{mid-len}
 use denote.Ref.{now}
 use Rattle.arith.specs.Lists.{placed-back}
 use Rattle.particle.specs.Layout.{recordLength}
-use Rattle.particle.specs.Record.{recordOf, Valid}
+use Rattle.particle.specs.Record.{label, recordOf, Valid}
 use Rattle.particle.proofs.RoundTrip.{record-length}
 use Rattle.particle.proofs.Valid.{valid-write}
-use Rattle.packing.proofs.Sets.{named, named-at, named-valid}
+use Rattle.packing.proofs.Sets.{relabelled, relabelled-at, relabelled-valid}
 use Rattle.packing.proofs.pack_particle.Statement.{statement}
 use Rattle.packing.proofs.pack_particle.Tie as tie
 
@@ -38,11 +38,11 @@ part-pack-end c = search needs
 pack-requires : tie.Need-pack-requires
 pack-requires c κs =
     let s = c .before .before .before .before .before in
-    let identifier = c .before .before .particle-in .result .identifier in
+    let old = label (c .before .before .particle-in .result) in
     let readable = s .pre .0 .readable in
-    let p = named identifier (readable .particle) in
-    let read = c .before .particle-at .ensures p (named-at identifier (readable .numbers)) refl in (
-      valid-write (c .before .particle-at .result) (subst Valid (sym read) (named-valid identifier (s .pre .0 .valid))),
+    let p = relabelled old (readable .particle) in
+    let read = c .before .particle-at .ensures p (relabelled-at old (readable .numbers)) refl in (
+      valid-write (c .before .particle-at .result) (subst Valid (sym read) (relabelled-valid old (s .pre .0 .valid))),
       mid-len (recordLength * s .args .k) (recordLength * s .args .k + recordLength) (now (s .args .records)) (s .pre .1) ∙ omega arith,
     )
 
@@ -55,7 +55,7 @@ returns c p n e =
     let at = packed .before .before in
     let old = at .before in
     let s = old .before .before .before in
-    let same = e ∙ ap (λ q. q .identifier) (sym (old .particle-in .ensures)) in
+    let same = e ∙ ap label (sym (old .particle-in .ensures)) in
     placed-back (now (s .args .records)) (recordLength * s .args .k) recordLength (packed .pack .ensures ∙ ap recordOf (at .particle-at .ensures p n same)) (record-length p)
 
 pub pack-particle-spec : {M : Type 1} → statement M

@@ -18,11 +18,12 @@ use Rattle.record_reader.proofs.check_read.Tie as tie
 abbrev either : ℤ → ℤ → ℤ → Bool
 either k a b = isℤ k a || isℤ k b
 
+-- the columns of B
 abbrev first : Particle → Bool
-first p = either (negℤ (pos 2048)) (p .bxx) (p .bxy)
+first p = either (negℤ (pos 2048)) (p .bxx) (p .byx)
 
 abbrev second : Particle → Bool
-second p = either (negℤ (pos 2048)) (p .byx) (p .byy)
+second p = either (negℤ (pos 2048)) (p .bxy) (p .byy)
 
 -- ---- back to the check before, and to the particle
 
@@ -59,13 +60,13 @@ first-is : (c : tie.After-one-is2) → first (p₂ (past-velocity c)) ≡ c .one
 first-is c =
     let p = p₂ (past-velocity c) in
     let t = typed p (c .before .struct-told4 .given) in
-    tested (either (negℤ (pos 2048))) (p .bxx) (p .bxy) (t .bxx) (t .bxy) (c .one-is2 .ensures)
+    tested (either (negℤ (pos 2048))) (p .bxx) (p .byx) (t .bxx) (t .byx) (c .one-is2 .ensures)
 
 second-is : (c : tie.After-one-is3) → second (p₃ (past-first c)) ≡ c .one-is3 .result
 second-is c =
     let p = p₃ (past-first c) in
     let t = typed p (c .before .struct-told6 .given) in
-    tested (either (negℤ (pos 2048))) (p .byx) (p .byy) (t .byx) (t .byy) (c .one-is3 .ensures)
+    tested (either (negℤ (pos 2048))) (p .bxy) (p .byy) (t .bxy) (t .byy) (c .one-is3 .ensures)
 
 mass-passes : (c : tie.Else1) → eqb (p₁ c .mass) 0 ≡ false
 mass-passes c = ne-eqb _ _ (c .if1 .left)

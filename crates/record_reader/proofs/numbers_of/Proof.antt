@@ -66,9 +66,12 @@ cast-t10 c = let d = from-byx c in widened-fits w16 w64 tt (particle d .byx) (is
 cast-t11 : tie.Need-cast-t11
 cast-t11 c = let d = from-byy c in widened-fits w16 w64 tt (particle d .byy) (is d .byy)
 
+cast-t12 : tie.Need-cast-t12
+cast-t12 c = record { sfits = omega (arith, is (from-byy (c .before)) .marks) }
+
 returns : tie.Need-returns
 returns c =
-    let d = from-byy c in
+    let d = from-byy (c .before) in
     let p = particle d in
     let t = is d in
     λ i.
@@ -82,6 +85,7 @@ returns c =
     ∷ widened w16 w64 tt (p .bxy) (t .bxy) i
     ∷ widened w16 w64 tt (p .byx) (t .byx) i
     ∷ widened w16 w64 tt (p .byy) (t .byy) i
+    ∷ toZ-pos w64 {n = p .marks} (omega (arith, t .marks)) i
     ∷ []
 
 pub numbers-of-spec : {M : Type 1} → statement M
@@ -98,4 +102,5 @@ numbers-of-spec =
     cast-t9
     cast-t10
     cast-t11
+    cast-t12
     returns)

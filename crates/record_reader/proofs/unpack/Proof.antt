@@ -69,7 +69,13 @@ low-requires-10 c κs = search needs
 signed-low-requires-6 : tie.Need-signed-low-requires-6
 signed-low-requires-6 c κs = search needs
 
--- ---- from the last field back to each, and to the words
+low-requires-11 : tie.Need-low-requires-11
+low-requires-11 c κs = search needs
+
+cast-t34 : tie.Need-cast-t34
+cast-t34 c = search needs
+
+-- ---- from Byy back to each field, and to the words
 
 abbrev at-byx : tie.After-signed-low6 → tie.After-signed-low5
 at-byx c = c .before .before
@@ -110,26 +116,28 @@ undivided word e = e ∙ ap (λ n. n % 65536) (sym (div-one word))
 
 returns : tie.Need-returns
 unfolding particleOf
-returns c =
+returns d =
+    let c = d .before in
     let w = words c in
     let l = now (start w .args .bytes) in
     let n = join (byteWidths layout) l in
     let long : length l ≡ recordLength = start w .pre in
     let small : (k : ℕ) → getD l k 0 < 256 = λ k. w .before .before .shared-slice-known .given k .fits in
-    let first = w .before .word .ensures ∙ word-of l long small 0 6 refl in
-    let last = w .word2 .ensures ∙ word-of l long small 6 0 refl in
+    let first = w .before .word .ensures ∙ word-of l long small 0 7 refl in
+    let last = w .word2 .ensures ∙ word-of l long small 7 0 refl in
     λ i.
     record {
-      identifier = top-read n 48 48 16 first (at-identifier c .low .ensures) (lit≤ tt) refl i;
-      mass = field-read n 48 38 10 first (at-mass c .low2 .ensures) (lit≤ tt) (lit≤ tt) i;
-      x = field-read n 48 26 12 first (at-x c .low3 .ensures) (lit≤ tt) (lit≤ tt) i;
-      y = field-read n 48 14 12 first (at-y c .low4 .ensures) (lit≤ tt) (lit≤ tt) i;
-      vx = signed-part 64 (at-vx c .signed-low .ok) (at-vx c .signed-low .ensures) (field-read n 48 7 7 first (at-vx c .before .low5 .ensures) (lit≤ tt) (lit≤ tt)) i;
-      vy = signed-part 64 (at-vy c .signed-low2 .ok) (at-vy c .signed-low2 .ensures) (field-read n 48 0 7 first (undivided (w .before .word .result) (at-vy c .before .low6 .ensures)) (lit≤ tt) (lit≤ tt)) i;
-      bxx = signed-part 2048 (at-bxx c .signed-low3 .ok) (at-bxx c .signed-low3 .ensures) (field-read n 0 36 12 last (at-bxx c .before .low7 .ensures) (lit≤ tt) (lit≤ tt)) i;
-      bxy = signed-part 2048 (at-bxy c .signed-low4 .ok) (at-bxy c .signed-low4 .ensures) (field-read n 0 24 12 last (at-bxy c .before .low8 .ensures) (lit≤ tt) (lit≤ tt)) i;
-      byx = signed-part 2048 (at-byx c .signed-low5 .ok) (at-byx c .signed-low5 .ensures) (field-read n 0 12 12 last (at-byx c .before .low9 .ensures) (lit≤ tt) (lit≤ tt)) i;
-      byy = signed-part 2048 (c .signed-low6 .ok) (c .signed-low6 .ensures) (field-read n 0 0 12 last (undivided (w .word2 .result) (c .before .low10 .ensures)) (lit≤ tt) (lit≤ tt)) i;
+      identifier = top-read n 56 48 16 first (at-identifier c .low .ensures) (lit≤ tt) refl i;
+      mass = field-read n 56 38 10 first (at-mass c .low2 .ensures) (lit≤ tt) (lit≤ tt) i;
+      x = field-read n 56 26 12 first (at-x c .low3 .ensures) (lit≤ tt) (lit≤ tt) i;
+      y = field-read n 56 14 12 first (at-y c .low4 .ensures) (lit≤ tt) (lit≤ tt) i;
+      vx = signed-part 64 (at-vx c .signed-low .ok) (at-vx c .signed-low .ensures) (field-read n 56 7 7 first (at-vx c .before .low5 .ensures) (lit≤ tt) (lit≤ tt)) i;
+      vy = signed-part 64 (at-vy c .signed-low2 .ok) (at-vy c .signed-low2 .ensures) (field-read n 56 0 7 first (undivided (w .before .word .result) (at-vy c .before .low6 .ensures)) (lit≤ tt) (lit≤ tt)) i;
+      bxx = signed-part 2048 (at-bxx c .signed-low3 .ok) (at-bxx c .signed-low3 .ensures) (field-read n 0 44 12 last (at-bxx c .before .low7 .ensures) (lit≤ tt) (lit≤ tt)) i;
+      bxy = signed-part 2048 (at-bxy c .signed-low4 .ok) (at-bxy c .signed-low4 .ensures) (field-read n 0 32 12 last (at-bxy c .before .low8 .ensures) (lit≤ tt) (lit≤ tt)) i;
+      byx = signed-part 2048 (at-byx c .signed-low5 .ok) (at-byx c .signed-low5 .ensures) (field-read n 0 20 12 last (at-byx c .before .low9 .ensures) (lit≤ tt) (lit≤ tt)) i;
+      byy = signed-part 2048 (c .signed-low6 .ok) (c .signed-low6 .ensures) (field-read n 0 8 12 last (c .before .low10 .ensures) (lit≤ tt) (lit≤ tt)) i;
+      marks = field-read n 0 0 8 last (undivided (w .word2 .result) (d .low11 .ensures)) (lit≤ tt) (lit≤ tt) i;
     }
 
 pub unpack-spec : {M : Type 1} → statement M
@@ -154,4 +162,6 @@ unpack-spec =
     signed-low-requires-5
     low-requires-10
     signed-low-requires-6
+    low-requires-11
+    cast-t34
     returns)

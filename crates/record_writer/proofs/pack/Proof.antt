@@ -84,7 +84,7 @@ put-requires : tie.Need-put-requires
 put-requires c κs =
     let d = c .before in
     let v = valid (known d) in
-    ((is (known d) .identifier, (omega (arith, v .mass-to), (omega (arith, v .x-to), (omega (arith, v .y-to), (at-vx d .residue .ensures .1, (at-vy d .residue2 .ensures .1, (at-bxx d .residue3 .ensures .1, (at-bxy d .residue4 .ensures .1, (at-byx d .residue5 .ensures .1, (d .residue6 .ensures .1, tt)))))))))), start (known d) .pre .1)
+    ((is (known d) .identifier, (omega (arith, v .mass-to), (omega (arith, v .x-to), (omega (arith, v .y-to), (at-vx d .residue .ensures .1, (at-vy d .residue2 .ensures .1, (at-bxx d .residue3 .ensures .1, (at-bxy d .residue4 .ensures .1, (at-byx d .residue5 .ensures .1, (d .residue6 .ensures .1, (is (known d) .marks, tt))))))))))), start (known d) .pre .1)
 
 same-length : tie.Need-same-length
 same-length c = search needs

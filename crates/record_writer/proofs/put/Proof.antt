@@ -54,8 +54,14 @@ mul-second-3 c = search needs
 add-second-2 : tie.Need-add-second-2
 add-second-2 c = search needs
 
+mul-second-4 : tie.Need-mul-second-4
+mul-second-4 c = search needs
+
 add-second-3 : tie.Need-add-second-3
 add-second-3 c = search needs
+
+add-second-4 : tie.Need-add-second-4
+add-second-4 c = search needs
 
 put-word-requires : tie.Need-put-word-requires
 put-word-requires c κs = search needs
@@ -81,11 +87,11 @@ returns c =
     let below = s .pre .0 in
     both .put-word2 .ensures
     ∙ ap₂ (λ v l. stored (wordBytes v) l 0)
-    (first-word (a .identifier) (a .mass) (a .x) (a .y) (a .vx) (a .vy) (a .bxx) (a .bxy) (a .byx) (a .byy) below)
+    (first-word (a .identifier) (a .mass) (a .x) (a .y) (a .vx) (a .vy) (a .bxx) (a .bxy) (a .byx) (a .byy) (a .marks) below)
     (half both .put-word .ensures
-    ∙ ap (λ v. stored (wordBytes v) (now (a .bytes)) 6)
-    (second-word (a .identifier) (a .mass) (a .x) (a .y) (a .vx) (a .vy) (a .bxx) (a .bxy) (a .byx) (a .byy) below))
-    ∙ two-words 6 (lit≤ tt) (number (a .identifier) (a .mass) (a .x) (a .y) (a .vx) (a .vy) (a .bxx) (a .bxy) (a .byx) (a .byy) below) (now (a .bytes)) (s .pre .1)
+    ∙ ap (λ v. stored (wordBytes v) (now (a .bytes)) 7)
+    (second-word (a .identifier) (a .mass) (a .x) (a .y) (a .vx) (a .vy) (a .bxx) (a .bxy) (a .byx) (a .byy) (a .marks) below))
+    ∙ two-words 7 (lit≤ tt) (number (a .identifier) (a .mass) (a .x) (a .y) (a .vx) (a .vy) (a .bxx) (a .bxy) (a .byx) (a .byy) (a .marks) below) (now (a .bytes)) (s .pre .1)
 
 pub put-spec : {M : Type 1} → statement M
 put-spec =
@@ -106,7 +112,9 @@ put-spec =
     add-second
     mul-second-3
     add-second-2
+    mul-second-4
     add-second-3
+    add-second-4
     put-word-requires
     put-word-requires-2
     same-length

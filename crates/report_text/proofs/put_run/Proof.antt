@@ -30,7 +30,7 @@ third s = linesUpTo (now (s .args .records)) (recordCount (now (s .args .records
 totals-typed : (s : tie.Start) → Typed (s .args .totals)
 totals-typed s =
     let g = s .good .1 .1 .1 .1 .0 .1 .1 in
-    record { mass = g .0 .1; px = g .1 .0 .1; py = g .1 .1 .0 .1; spin = g .1 .1 .1 .0 .1; motion = g .1 .1 .1 .1 .0 .1 }
+    record { mass = g .0 .1; px = g .1 .0 .1; py = g .1 .1 .0 .1; spin = g .1 .1 .1 .0 .1; motion = g .1 .1 .1 .1 .0 .1; marks = g .1 .1 .1 .1 .1 .0 .1 }
 
 room : (s : tie.Start) → Room (now (s .args .out)) 0 (first s ++ (second s ++ third s))
 unfolding runText particlesIn

@@ -36,7 +36,8 @@ next-particle-requires : tie.Need-next-particle-requires
 next-particle-requires c κs =
     let s = c .before .before .before .before .before .before in
     let read = c .before .before .before .read-indexed in
-    (read-held (s .args .k) _ _ (sym (read .ensures) ∙ ap toldRead (c .before .p .given .1)) .valid, s .pre .0, s .pre .1, s .pre .2)
+    let held = read-held (s .args .k) _ _ (sym (read .ensures) ∙ ap toldRead (c .before .p .given .1)) in
+    (held .valid, held .marks-below, s .pre .0, s .pre .1, s .pre .2)
 
 enum-known-refusal : tie.Need-enum-known-refusal
 enum-known-refusal c = search needs

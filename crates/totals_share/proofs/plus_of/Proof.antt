@@ -1,12 +1,12 @@
 -- `plus_of` meets its contract: each sum fits, as its caller says. Assumes nothing.
 use mathlib.Core.Path.{_≡_}
-use Prim.Native.Nat.{_+_, _^_, _<_}
+use Prim.Native.Nat.{_^_, _<_}
 use lib.IntN.{ℤ, _+ℤ_}
 use lib.Signed.{mag}
 use mir.Syntax.{w64}
 use mir.Val.{SFits, toZ, ofZ, hbits}
 use mir.Facts.{toZ-ofZ}
-use borrow.Author.Needs.{needs, sfits-of}
+use borrow.Author.Needs.{sfits-of}
 use Rattle.arith.specs.Machine.{fits₂, result₂}
 use Rattle.totals.specs.declared.Totals.{Totals}
 use Rattle.totals.proofs.Fields.{Typed, typed}
@@ -30,7 +30,7 @@ module _ (a b : ℤ) (ha : mag a < 2 ^ hbits w64) (hb : mag b < 2 ^ hbits w64) (
 -- ---- the totals, once both are known to be as their type has them
 
 abbrev start : tie.After-struct-told2 → tie.Start
-start c = c .before .before .before .before .before .before
+start c = c .before .before .before .before
 
 abbrev s : tie.After-struct-told2 → Totals
 s c = start c .args .s
@@ -46,20 +46,26 @@ t-is c = typed (t c) (c .struct-told2 .given)
 
 -- ---- back to there
 
-abbrev from-py : tie.After-struct-told4 → tie.After-struct-told2
-from-py c = c .before .before .before .before
+abbrev from-px : tie.After-struct-told4 → tie.After-struct-told2
+from-px c = c .before .before .before .before
 
-abbrev from-spin : tie.After-struct-told6 → tie.After-struct-told2
+abbrev from-py : tie.After-struct-told6 → tie.After-struct-told2
+from-py c = from-px (c .before .before .before .before)
+
+abbrev from-spin : tie.After-struct-told8 → tie.After-struct-told2
 from-spin c = from-py (c .before .before .before .before)
 
-abbrev from-motion : tie.After-struct-told8 → tie.After-struct-told2
+abbrev from-motion : tie.After-struct-told10 → tie.After-struct-told2
 from-motion c = from-spin (c .before .before .before .before)
 
+abbrev from-marks : tie.After-struct-told12 → tie.After-struct-told2
+from-marks c = from-motion (c .before .before .before .before)
+
 add-t3 : tie.Need-add-t3
-add-t3 c = search needs
+add-t3 c = sum-fits (s c .mass) (t c .mass) (s-is c .mass) (t-is c .mass) (start c .pre .mass)
 
 add-t4 : tie.Need-add-t4
-add-t4 c = sum-fits (s c .px) (t c .px) (s-is c .px) (t-is c .px) (start c .pre .px)
+add-t4 c = let d = from-px c in sum-fits (s d .px) (t d .px) (s-is d .px) (t-is d .px) (start d .pre .px)
 
 add-t5 : tie.Need-add-t5
 add-t5 c = let d = from-py c in sum-fits (s d .py) (t d .py) (s-is d .py) (t-is d .py) (start d .pre .py)
@@ -72,18 +78,22 @@ add-t7 c =
     let d = from-motion c in
     sum-fits (s d .motion) (t d .motion) (s-is d .motion) (t-is d .motion) (start d .pre .motion)
 
+add-t8 : tie.Need-add-t8
+add-t8 c = let d = from-marks c in sum-fits (s d .marks) (t d .marks) (s-is d .marks) (t-is d .marks) (start d .pre .marks)
+
 returns : tie.Need-returns
 returns c =
-    let d = from-motion c in
+    let d = from-marks c in
     let fit = start d .pre in
     λ i.
     record {
-      mass = s d .mass + t d .mass;
+      mass = sum-is (s d .mass) (t d .mass) (s-is d .mass) (t-is d .mass) (fit .mass) i;
       px = sum-is (s d .px) (t d .px) (s-is d .px) (t-is d .px) (fit .px) i;
       py = sum-is (s d .py) (t d .py) (s-is d .py) (t-is d .py) (fit .py) i;
       spin = sum-is (s d .spin) (t d .spin) (s-is d .spin) (t-is d .spin) (fit .spin) i;
       motion = sum-is (s d .motion) (t d .motion) (s-is d .motion) (t-is d .motion) (fit .motion) i;
+      marks = sum-is (s d .marks) (t d .marks) (s-is d .marks) (t-is d .marks) (fit .marks) i;
     }
 
 pub plus-of-spec : {M : Type 1} → statement M
-plus-of-spec = tie.close (tie.spec add-t3 add-t4 add-t5 add-t6 add-t7 returns)
+plus-of-spec = tie.close (tie.spec add-t3 add-t4 add-t5 add-t6 add-t7 add-t8 returns)

@@ -1,6 +1,7 @@
 -- `share_of` meets its contract: each number that it widens is the particle's, and each part of the share follows from
 -- the parts' contracts. Assumes nothing.
 use borrow.Author.Needs.{needs}
+use native.Mathlib.Omega.{arith}
 use Rattle.arith.specs.Size.{sizes, bounded}
 use Rattle.bits.proofs.Held.{held-unsigned, held-signed}
 use Rattle.particle.specs.declared.Particle.{Particle}
@@ -11,40 +12,37 @@ use Rattle.totals_share.proofs.share_of.Tie as tie
 
 -- ---- back to each number that was widened
 
-abbrev at-byy : tie.After-struct-known → tie.After-signed6
-at-byy c = c .before
+abbrev at-byx : tie.After-signed6 → tie.After-signed5
+at-byx c = c .before .before
 
-abbrev at-byx : tie.After-struct-known → tie.After-signed5
-at-byx c = at-byy c .before .before
-
-abbrev at-bxy : tie.After-struct-known → tie.After-signed4
+abbrev at-bxy : tie.After-signed6 → tie.After-signed4
 at-bxy c = at-byx c .before .before
 
-abbrev at-bxx : tie.After-struct-known → tie.After-signed3
+abbrev at-bxx : tie.After-signed6 → tie.After-signed3
 at-bxx c = at-bxy c .before .before
 
-abbrev at-vy : tie.After-struct-known → tie.After-signed2
+abbrev at-vy : tie.After-signed6 → tie.After-signed2
 at-vy c = at-bxx c .before .before
 
-abbrev at-vx : tie.After-struct-known → tie.After-signed
+abbrev at-vx : tie.After-signed6 → tie.After-signed
 at-vx c = at-vy c .before .before
 
-abbrev at-y : tie.After-struct-known → tie.After-unsigned3
+abbrev at-y : tie.After-signed6 → tie.After-unsigned3
 at-y c = at-vx c .before .before
 
-abbrev at-x : tie.After-struct-known → tie.After-unsigned2
+abbrev at-x : tie.After-signed6 → tie.After-unsigned2
 at-x c = at-y c .before
 
-abbrev at-mass : tie.After-struct-known → tie.After-unsigned
+abbrev at-mass : tie.After-signed6 → tie.After-unsigned
 at-mass c = at-x c .before
 
-abbrev particle : tie.After-struct-known → Particle
+abbrev particle : tie.After-signed6 → Particle
 particle c = at-mass c .before .args .p
 
-is : (c : tie.After-struct-known) → Typed (particle c)
+is : (c : tie.After-signed6) → Typed (particle c)
 is c = typed (particle c) (at-vx c .before .struct-told .given)
 
-wide : (c : tie.After-struct-known) → Widened (particle c) (at-mass c .unsigned .result) (at-x c .unsigned2 .result) (at-y c .unsigned3 .result) (at-vx c .signed .result) (at-vy c .signed2 .result) (at-bxx c .signed3 .result) (at-bxy c .signed4 .result) (at-byx c .signed5 .result) (at-byy c .signed6 .result)
+wide : (c : tie.After-signed6) → Widened (particle c) (at-mass c .unsigned .result) (at-x c .unsigned2 .result) (at-y c .unsigned3 .result) (at-vx c .signed .result) (at-vy c .signed2 .result) (at-bxx c .signed3 .result) (at-bxy c .signed4 .result) (at-byx c .signed5 .result) (c .signed6 .result)
 wide c =
     let p = particle c in
     record {
@@ -56,7 +54,7 @@ wide c =
       bxx-held = held-signed (p .bxx) (at-bxx c .signed3 .ensures) (is c .bxx);
       bxy-held = held-signed (p .bxy) (at-bxy c .signed4 .ensures) (is c .bxy);
       byx-held = held-signed (p .byx) (at-byx c .signed5 .ensures) (is c .byx);
-      byy-held = held-signed (p .byy) (at-byy c .signed6 .ensures) (is c .byy);
+      byy-held = held-signed (p .byy) (c .signed6 .ensures) (is c .byy);
     }
 
 unsigned-requires : tie.Need-unsigned-requires
@@ -85,9 +83,6 @@ signed-requires-5 c κs = search needs
 
 signed-requires-6 : tie.Need-signed-requires-6
 signed-requires-6 c κs = search needs
-
-cast-t11 : tie.Need-cast-t11
-cast-t11 c = search needs
 
 linear-share-requires : tie.Need-linear-share-requires
 linear-share-requires c κs = let w = wide c in linear-fits (w .mass-held .here) (w .vx-held .here)
@@ -133,16 +128,26 @@ motion-share-requires c κs =
     (c .before .straight-part .ensures) (bounded (search sizes depth 20) tt)
     (c .turning-part .ensures) (bounded (search sizes depth 20) tt)
 
+-- from marks, which are read last, back to spin and to the numbers
+abbrev at-spin : tie.After-struct-known → tie.After-angular-share
+at-spin c = c .before .before .before .before
+
+abbrev all : tie.After-struct-known → tie.After-signed6
+all c = at-spin c .before .before .before
+
+cast-t18 : tie.Need-cast-t18
+cast-t18 c = record { sfits = omega (arith, is (all c) .marks) }
+
 returns : tie.Need-returns
 returns c =
-    let spin = c .before .before .before in
-    is-share (wide (spin .before .before .before))
-    (spin .before .before .linear-share .ensures)
-    (spin .before .linear-share2 .ensures)
-    (spin .angular-share .ensures)
-    (c .before .before .straight-part .ensures)
-    (c .before .turning-part .ensures)
-    (c .motion-share .ensures)
+    is-share (wide (all c))
+    (at-spin c .before .before .linear-share .ensures)
+    (at-spin c .before .linear-share2 .ensures)
+    (at-spin c .angular-share .ensures)
+    (c .before .before .before .straight-part .ensures)
+    (c .before .before .turning-part .ensures)
+    (c .before .motion-share .ensures)
+    (is (all c) .marks)
 
 pub share-of-spec : {M : Type 1} → statement M
 share-of-spec =
@@ -157,7 +162,6 @@ share-of-spec =
     signed-requires-4
     signed-requires-5
     signed-requires-6
-    cast-t11
     linear-share-requires
     linear-share-requires-2
     angular-share-requires
@@ -165,4 +169,5 @@ share-of-spec =
     straight-part-requires
     turning-part-requires
     motion-share-requires
+    cast-t18
     returns)

@@ -28,74 +28,75 @@ natural-at-requires-3 : tie.Need-natural-at-requires-3
 natural-at-requires-3 c κs =
     let r = c .before .before .pre in record { inside = omega (arith, r .inside); number = r .particle .y; is = r .numbers .y }
 
-add-t10 : tie.Need-add-t10
-add-t10 c = omega arith
+add-t11 : tie.Need-add-t11
+add-t11 c = omega arith
 
-mul-t11 : tie.Need-mul-t11
-mul-t11 c = omega arith
+mul-t12 : tie.Need-mul-t12
+mul-t12 c = omega arith
 
-shared-slice-copy-out-t13 : tie.Need-shared-slice-copy-out-t13
-shared-slice-copy-out-t13 c = omega arith
+shared-slice-copy-out-t14 : tie.Need-shared-slice-copy-out-t14
+shared-slice-copy-out-t14 c = omega arith
 
-add-t14 : tie.Need-add-t14
-add-t14 c = omega arith
+add-t15 : tie.Need-add-t15
+add-t15 c = omega arith
 
-mul-t15 : tie.Need-mul-t15
-mul-t15 c = omega arith
+mul-t16 : tie.Need-mul-t16
+mul-t16 c = omega arith
 
-shared-slice-copy-out-t17 : tie.Need-shared-slice-copy-out-t17
-shared-slice-copy-out-t17 c = omega arith
+shared-slice-copy-out-t18 : tie.Need-shared-slice-copy-out-t18
+shared-slice-copy-out-t18 c = omega arith
 
-add-t18 : tie.Need-add-t18
-add-t18 c = omega arith
+add-t19 : tie.Need-add-t19
+add-t19 c = omega arith
 
-mul-t19 : tie.Need-mul-t19
-mul-t19 c = omega arith
+mul-t20 : tie.Need-mul-t20
+mul-t20 c = omega arith
 
-shared-slice-copy-out-t21 : tie.Need-shared-slice-copy-out-t21
-shared-slice-copy-out-t21 c = omega arith
+shared-slice-copy-out-t22 : tie.Need-shared-slice-copy-out-t22
+shared-slice-copy-out-t22 c = omega arith
 
-add-t22 : tie.Need-add-t22
-add-t22 c = omega arith
+add-t23 : tie.Need-add-t23
+add-t23 c = omega arith
 
-mul-t23 : tie.Need-mul-t23
-mul-t23 c = omega arith
+mul-t24 : tie.Need-mul-t24
+mul-t24 c = omega arith
 
-shared-slice-copy-out-t25 : tie.Need-shared-slice-copy-out-t25
-shared-slice-copy-out-t25 c = omega arith
+shared-slice-copy-out-t26 : tie.Need-shared-slice-copy-out-t26
+shared-slice-copy-out-t26 c = omega arith
 
-add-t26 : tie.Need-add-t26
-add-t26 c = omega arith
+add-t27 : tie.Need-add-t27
+add-t27 c = omega arith
 
-mul-t27 : tie.Need-mul-t27
-mul-t27 c = omega arith
+mul-t28 : tie.Need-mul-t28
+mul-t28 c = omega arith
 
-shared-slice-copy-out-t29 : tie.Need-shared-slice-copy-out-t29
-shared-slice-copy-out-t29 c = omega arith
+shared-slice-copy-out-t30 : tie.Need-shared-slice-copy-out-t30
+shared-slice-copy-out-t30 c = omega arith
 
-add-t30 : tie.Need-add-t30
-add-t30 c = omega arith
+add-t31 : tie.Need-add-t31
+add-t31 c = omega arith
 
-mul-t31 : tie.Need-mul-t31
-mul-t31 c = omega arith
+mul-t32 : tie.Need-mul-t32
+mul-t32 c = omega arith
 
-shared-slice-copy-out-t33 : tie.Need-shared-slice-copy-out-t33
-shared-slice-copy-out-t33 c = omega arith
+shared-slice-copy-out-t34 : tie.Need-shared-slice-copy-out-t34
+shared-slice-copy-out-t34 c = omega arith
 
 returns : tie.Need-returns
 returns c p n e =
     λ i.
     record {
-      identifier = sym e i;
+      identifier = sym e i .0;
       mass = (c .before .before .before .before .before .before .before .before .natural-at .ensures ∙ ap natAbs (n .mass)) i;
       x = (c .before .before .before .before .before .before .before .natural-at2 .ensures ∙ ap natAbs (n .x)) i;
       y = (c .before .before .before .before .before .before .natural-at3 .ensures ∙ ap natAbs (n .y)) i;
-      vx = read-result w16 (c .before .before .before .before .before .t13 .given) (n .vx) i;
-      vy = read-result w16 (c .before .before .before .before .t17 .given) (n .vy) i;
-      bxx = read-result w16 (c .before .before .before .t21 .given) (n .bxx) i;
-      bxy = read-result w16 (c .before .before .t25 .given) (n .bxy) i;
-      byx = read-result w16 (c .before .t29 .given) (n .byx) i;
-      byy = read-result w16 (c .t33 .given) (n .byy) i;
+      vx = read-result w16 (c .before .before .before .before .before .t14 .given) (n .vx) i;
+      vy = read-result w16 (c .before .before .before .before .t18 .given) (n .vy) i;
+      bxx = read-result w16 (c .before .before .before .t22 .given) (n .bxx) i;
+      bxy = read-result w16 (c .before .before .t26 .given) (n .bxy) i;
+      byx = read-result w16 (c .before .t30 .given) (n .byx) i;
+      byy = read-result w16 (c .t34 .given) (n .byy) i;
+      marks = sym e i .1;
     }
 
 pub particle-at-spec : {M : Type 1} → statement M
@@ -108,22 +109,22 @@ particle-at-spec =
     natural-at-requires-2
     add-natural-at-2
     natural-at-requires-3
-    add-t10
-    mul-t11
-    shared-slice-copy-out-t13
-    add-t14
-    mul-t15
-    shared-slice-copy-out-t17
-    add-t18
-    mul-t19
-    shared-slice-copy-out-t21
-    add-t22
-    mul-t23
-    shared-slice-copy-out-t25
-    add-t26
-    mul-t27
-    shared-slice-copy-out-t29
-    add-t30
-    mul-t31
-    shared-slice-copy-out-t33
+    add-t11
+    mul-t12
+    shared-slice-copy-out-t14
+    add-t15
+    mul-t16
+    shared-slice-copy-out-t18
+    add-t19
+    mul-t20
+    shared-slice-copy-out-t22
+    add-t23
+    mul-t24
+    shared-slice-copy-out-t26
+    add-t27
+    mul-t28
+    shared-slice-copy-out-t30
+    add-t31
+    mul-t32
+    shared-slice-copy-out-t34
     returns)

@@ -54,9 +54,9 @@ returns c₁₀ =
     let bxy = field (c₈ .signed4 .ok) (c₈ .signed4 .ensures) (s .fits .bxy) in
     let byx = field (c₉ .signed5 .ok) (c₉ .signed5 .ensures) (s .fits .byx) in
     let byy = field (c₁₀ .signed6 .ok) (c₁₀ .signed6 .ensures) (s .fits .byy) in
-    let wide = particleWith (p .identifier) (p .mass) (p .x) (p .y) (p .vx) (p .vy) (p .bxx) (p .bxy) (p .byx) (p .byy) in
+    let wide = particleWith (p .identifier) (p .mass) (p .x) (p .y) (p .vx) (p .vy) (p .bxx) (p .bxy) (p .byx) (p .byy) (p .marks) in
     subst (λ q. SameRecord q wide)
-    (sym (λ i. particleWith (p .identifier) (c₂ .unsigned .ensures i) (c₃ .unsigned2 .ensures i) (c₄ .unsigned3 .ensures i) (vx i) (vy i) (bxx i) (bxy i) (byx i) (byy i)))
+    (sym (λ i. particleWith (p .identifier) (c₂ .unsigned .ensures i) (c₃ .unsigned2 .ensures i) (c₄ .unsigned3 .ensures i) (vx i) (vy i) (bxx i) (bxy i) (byx i) (byy i) (p .marks)))
     (same-record wide)
 
 pub particle-spec : {M : Type 1} → statement M

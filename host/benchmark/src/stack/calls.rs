@@ -30,7 +30,10 @@ impl Bath {
         let size = Size::new(side, side);
         let mut numbers = Generator::new(count as u64);
         let mut place = || numbers.between(32, 64 * (side - 1) - 33);
-        let particle = |k| Particle::at_rest(15 * k as u16, 32, place(), place());
+        let particle = |k| {
+            let particle = Particle::at_rest(15 * k as u16, 32, place(), place());
+            particle.with_marks(k as u8)
+        };
         Bath {
             settings: Settings::new(size, 0, 0),
             particles: (0..count).map(particle).collect(),

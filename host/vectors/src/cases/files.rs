@@ -1,9 +1,11 @@
 //! Read a file, write a header, the program.
 
+use reference::limits::{HEADER_LENGTH, MAX_SET_LENGTH, RECORD_LENGTH};
 use reference::particle_set::pack_records;
 use reference::{Edge, Header, Particle, Settings, Size};
 
-use super::{accepted_sets, broken, bytes, case, copies, edge_name, lone, refused_sets};
+use super::{accepted_sets, broken, bytes, case, copies, differing_marks, edge_name, lone};
+use super::{marked, marked_records, refused_sets, without_marks};
 use super::{REFUSED_DRAGS, REFUSED_EDGES, REFUSED_SIZES, SMALL};
 use crate::{Buffers, Case, Operation};
 
@@ -57,8 +59,8 @@ fn read(name: &str, file: Buffers, stated: Option<(u32, usize)>) -> Case {
 }
 
 fn read_refusals() -> Vec<Case> {
-    let one = lone(1).pack();
-    let two = pack_records(&copies(2, lone(0)));
+    let one = marked(lone(1)).pack();
+    let two = marked_records(&copies(2, lone(0)));
     let mut cases: Vec<Case> = [0, 1, 8, 9, 10]
         .map(|length| {
             read(
@@ -97,7 +99,7 @@ fn read_refusals() -> Vec<Case> {
             file(
                 header(SMALL, 4097, 1),
                 0,
-                &pack_records(&copies(4097, lone(0))),
+                &marked_records(&copies(4097, lone(0))),
             ),
             Some((3, 0)),
         ),
@@ -121,7 +123,7 @@ fn read_refusals() -> Vec<Case> {
             Some((16, 0)),
         ));
     }
-    let massless = Particle { mass: 0, ..lone(0) }.pack();
+    let massless = marked(Particle { mass: 0, ..lone(0) }).pack();
     cases.extend([
         read(
             "no-record-of-2",
@@ -135,12 +137,12 @@ fn read_refusals() -> Vec<Case> {
         ),
         read(
             "one-byte-short",
-            file(header(SMALL, 2, 1), 0, &two[..27]),
+            file(header(SMALL, 2, 1), 0, &two[..two.len() - 1]),
             Some((1, 0)),
         ),
         read(
             "one-byte-long",
-            file(header(SMALL, 1, 1), 0, &two[..15]),
+            file(header(SMALL, 1, 1), 0, &two[..RECORD_LENGTH + 1]),
             Some((1, 0)),
         ),
         read(
@@ -154,12 +156,18 @@ fn read_refusals() -> Vec<Case> {
             Some((1, 0)),
         ),
     ]);
+    for count in [1, 2, 15, 30] {
+        let records = marked_records(&copies(count, lone(0)));
+        let name = format!("records-{count}-without-marks");
+        let file = file(header(SMALL, count.into(), 1), 0, &without_marks(&records));
+        cases.push(read(&name, file, Some((1, 0))));
+    }
     for (name, records, stated) in refused_sets() {
         // Whole records only, and no more than the count can say.
         if stated.0 == 1 {
             continue;
         }
-        let count = records.len() as i128 / 14;
+        let count = (records.len() / RECORD_LENGTH) as i128;
         cases.push(read(
             name,
             file(header(SMALL, count, 1), 0, &records),
@@ -195,7 +203,7 @@ fn read_cases() -> Vec<Case> {
     let mut cases: Vec<Case> = accepted_sets()
         .into_iter()
         .map(|(name, records)| {
-            let count = records.len() as i128 / 14;
+            let count = (records.len() / RECORD_LENGTH) as i128;
             read(name, file(header(SMALL, count, 1), 0, &records), None)
         })
         .collect();
@@ -245,9 +253,9 @@ fn edges_and_drags() -> Vec<(String, Header)> {
 }
 
 /// The printed example.
-const PRINTED: [u8; 25] = [
+const PRINTED: [u8; HEADER_LENGTH + RECORD_LENGTH] = [
     0x10, 0x40, 0x00, 0x00, 0x00, 0x00, 0x08, 0x00, 0x20, 0x00, 0x00, 0x00, 0x07, 0x00, 0x81, 0x00,
-    0x10, 0x01, 0xFE, 0x00, 0x00, 0x00, 0x00, 0x00, 0x00,
+    0x10, 0x01, 0xFE, 0x00, 0x00, 0x00, 0x00, 0x00, 0x00, 0x00,
 ];
 
 fn header_cases() -> Vec<Case> {
@@ -257,7 +265,7 @@ fn header_cases() -> Vec<Case> {
         case(
             format!("write-header/{name}"),
             operation,
-            bytes([0xA5; 11]),
+            bytes([0xA5; HEADER_LENGTH]),
             stated,
         )
     };
@@ -327,7 +335,10 @@ fn program_cases() -> Vec<Case> {
         let name = format!("program/{name}");
         case(name, Operation::Program, file, None)
     };
-    let one = |steps: i128, particle: Particle| file(header(SMALL, 1, steps), 0, &particle.pack());
+    let one = |steps: i128, particle: Particle| {
+        let record = marked(particle).pack();
+        file(header(SMALL, 1, steps), 0, &record)
+    };
     let gliding = Particle::at_rest(40, 3, 100, 100).moving(-7, 0);
     let leaving = Particle::at_rest(40, 3, 90, 100).moving(-63, 0);
     let with = |edge: Edge, drag: i128| {
@@ -335,17 +346,24 @@ fn program_cases() -> Vec<Case> {
             count: 1,
             ..with_edge(edge, drag)
         };
-        file(header, 0, &gliding.pack())
+        file(header, 0, &marked(gliding).pack())
     };
     let massless = Particle { mass: 0, ..lone(2) };
-    let refused = pack_records(&[lone(1), massless]);
+    let refused = marked_records(&[lone(1), massless]);
+    let marks = |gx: i128, gy: i128| {
+        let header = Header {
+            settings: Settings::new(Size::new(8, 9), gx, gy),
+            ..header(SMALL, 5, 9)
+        };
+        file(header, 0, &pack_records(&differing_marks()))
+    };
     vec![
         program("printed", bytes(PRINTED)),
         program("no-input", bytes([])),
         program("text", bytes(*b"hello, grid\n")),
         program(
             "longer-than-any-file",
-            file(header(SMALL, 1, 1), 0, &[0; 60_000]),
+            file(header(SMALL, 1, 1), 0, &[0; MAX_SET_LENGTH + 1]),
         ),
         program("no-record", file(header(SMALL, 0, 10), 0, &[])),
         program("no-step", one(0, lone(1))),
@@ -356,7 +374,10 @@ fn program_cases() -> Vec<Case> {
         program("slip-with-drag", with(Edge::slip(2), 30)),
         program("drag", with(Edge::OPEN, 90)),
         program("refused-edge", with(Edge::new(3, 1), 0)),
-        program("ten-bytes", bytes(&PRINTED[..10])),
-        program("header-alone", bytes(&PRINTED[..11])),
+        program("marks", marks(8, 7)),
+        program("marks-stopped", marks(3000, 900)),
+        program("without-marks", bytes(&PRINTED[..PRINTED.len() - 1])),
+        program("ten-bytes", bytes(&PRINTED[..HEADER_LENGTH - 1])),
+        program("header-alone", bytes(&PRINTED[..HEADER_LENGTH])),
     ]
 }

@@ -1,10 +1,9 @@
 //! Numbers that are halves, and those next to them, at each of the four places that are rounded.
 
-use reference::particle_set::pack_records;
 use reference::{Particle, Settings, Size};
 
 use super::transfers::{field, gather_field, update_nodes_with, HEAVY};
-use super::{case, with_grid};
+use super::{case, marked_records, with_grid};
 use crate::roundings::gathered_sums;
 use crate::{Case, Operation};
 
@@ -220,7 +219,7 @@ fn beside_gathered_b() -> Vec<Case> {
 /// Steps that round halves at one place.
 fn steps() -> Vec<Case> {
     let step = |name: String, settings: Settings, particles: &[Particle]| {
-        let buffers = with_grid(pack_records(particles), OBLONG);
+        let buffers = with_grid(marked_records(particles), OBLONG);
         case(
             format!("step/{name}"),
             Operation::Step(settings),
@@ -256,7 +255,7 @@ fn steps() -> Vec<Case> {
 /// Runs that round halves at every step, or at most of them.
 fn runs() -> Vec<Case> {
     let run = |name: String, settings: Settings, steps: i128, particles: &[Particle]| {
-        let buffers = with_grid(pack_records(particles), OBLONG);
+        let buffers = with_grid(marked_records(particles), OBLONG);
         let operation = Operation::Run(settings, steps);
         case(format!("run/{name}"), operation, buffers, None)
     };

@@ -7,6 +7,7 @@ mod sets;
 mod simulation;
 mod transfers;
 
+use reference::limits::RECORD_LENGTH;
 use reference::particle_set::pack_records;
 use reference::{Edge, Grid, Particle, Refusal, Settings, Size};
 
@@ -64,9 +65,51 @@ fn with_grid(bytes: impl Into<Vec<u8>>, size: Size) -> Buffers {
     Buffers { bytes, grid }
 }
 
+/// The printed example's particle.
+fn printed() -> Particle {
+    Particle::at_rest(7, 2, 64, 64).moving(3, -2)
+}
+
+/// The particle with marks that its other fields decide. Those of particles that differ in their rising
+/// identifiers alone rise too.
+fn marked(particle: Particle) -> Particle {
+    let [identifier, numbers @ .., _] = particle.fields();
+    let mixed = numbers.iter().fold(0, |mixed, number| 31 * mixed + number);
+    particle.with_marks((identifier + mixed) as u8)
+}
+
+/// The records of particles with such marks, in range or not.
+fn marked_records(particles: &[Particle]) -> Vec<u8> {
+    let marked: Vec<Particle> = particles.iter().copied().map(marked).collect();
+    pack_records(&marked)
+}
+
 /// A particle of mass 1 at rest at (64, 64) with B zero.
 fn lone(identifier: u16) -> Particle {
     Particle::at_rest(identifier, 1, 64, 64)
+}
+
+/// Particles that share nodes, with marks of both ends, with equal ones and with ones between.
+fn differing_marks() -> [Particle; 5] {
+    [
+        Particle::at_rest(10, 5, 190, 210)
+            .moving(4, -3)
+            .with_b([100, -200, 300, -50])
+            .with_marks(255),
+        Particle::at_rest(20, 70, 217, 195)
+            .moving(-2, 6)
+            .with_b([-40, 60, 90, 150])
+            .with_marks(0),
+        Particle::at_rest(21, 311, 170, 260)
+            .moving(1, 0)
+            .with_marks(128),
+        Particle::at_rest(300, 2, 201, 239)
+            .moving(-5, 2)
+            .with_marks(1),
+        Particle::at_rest(301, 90, 233, 222)
+            .moving(0, -4)
+            .with_marks(128),
+    ]
 }
 
 /// Particles equal but for their identifiers, which rise from 0.
@@ -99,13 +142,25 @@ fn refused_sets() -> Vec<RefusedSet> {
     [refused_lengths(), refused_records(), refused_in_order()].concat()
 }
 
+/// Records without the byte of their marks.
+fn without_marks(records: &[u8]) -> Vec<u8> {
+    let lacking = |record: &[u8]| record[..RECORD_LENGTH - 1].to_vec();
+    records.chunks(RECORD_LENGTH).flat_map(lacking).collect()
+}
+
 fn refused_lengths() -> Vec<RefusedSet> {
-    let record = lone(3).pack();
+    let record = marked(lone(3)).pack();
+    let lacking = without_marks(&marked_records(&copies(2, lone(0))));
     vec![
         ("length-1", vec![0xA5], (1, 0)),
-        ("length-13", record[..13].to_vec(), (1, 0)),
-        ("length-15", [&record[..], &[0]].concat(), (1, 0)),
-        ("records-4097", pack_records(&copies(4097, lone(0))), (1, 0)),
+        ("length-14", record[..RECORD_LENGTH - 1].to_vec(), (1, 0)),
+        ("length-16", [&record[..], &[0]].concat(), (1, 0)),
+        ("records-2-without-marks", lacking, (1, 0)),
+        (
+            "records-4097",
+            marked_records(&copies(4097, lone(0))),
+            (1, 0),
+        ),
     ]
 }
 
@@ -113,7 +168,7 @@ fn refused_lengths() -> Vec<RefusedSet> {
 fn middle_changed(change: impl Fn(&mut Particle)) -> Vec<u8> {
     let mut particles = [lone(3), lone(5), lone(9)];
     change(&mut particles[1]);
-    pack_records(&particles)
+    marked_records(&particles)
 }
 
 /// One limit broken.
@@ -134,7 +189,7 @@ fn refused_records() -> Vec<RefusedSet> {
         ("identifier-repeats", one(|p| p.identifier = 3), (8, 1)),
         ("identifier-falls", one(|p| p.identifier = 2), (8, 1)),
         ("next-identifier-falls", one(|p| p.identifier = 10), (8, 2)),
-        ("total-mass-131073", pack_records(&too_heavy()), (9, 128)),
+        ("total-mass-131073", marked_records(&too_heavy()), (9, 128)),
     ]
 }
 
@@ -160,7 +215,7 @@ fn refused_in_order() -> Vec<RefusedSet> {
             (7, 1),
         ),
         ("8-before-9", repeated_and_heavy(), (8, 128)),
-        ("lower-record-first", pack_records(&later), (9, 128)),
+        ("lower-record-first", marked_records(&later), (9, 128)),
     ]
 }
 
@@ -175,7 +230,7 @@ fn too_heavy() -> Vec<Particle> {
 fn repeated_and_heavy() -> Vec<u8> {
     let mut particles = too_heavy();
     particles[128].identifier = 127;
-    pack_records(&particles)
+    marked_records(&particles)
 }
 
 /// Sets accepted on 4 by 4 nodes.
@@ -185,15 +240,16 @@ fn accepted_sets() -> Vec<(&'static str, Vec<u8>)> {
         .with_b([-2047; 4]);
     let high = Particle::at_rest(u16::MAX, 1023, 159, 159)
         .moving(63, 63)
-        .with_b([2047; 4]);
+        .with_b([2047; 4])
+        .with_marks(u8::MAX);
     vec![
         ("empty", vec![]),
-        ("one", lone(7).pack().to_vec()),
-        ("two-at-one-place", pack_records(&copies(2, lone(0)))),
+        ("one", marked(lone(7)).pack().to_vec()),
+        ("two-at-one-place", marked_records(&copies(2, lone(0)))),
         ("smallest-and-largest", pack_records(&[low, high])),
         (
             "records-4096",
-            pack_records(&copies(
+            marked_records(&copies(
                 4096,
                 Particle {
                     mass: 32,
@@ -201,7 +257,7 @@ fn accepted_sets() -> Vec<(&'static str, Vec<u8>)> {
                 },
             )),
         ),
-        ("total-mass-131072", pack_records(&heaviest(lone(0)))),
+        ("total-mass-131072", marked_records(&heaviest(lone(0)))),
     ]
 }
 
@@ -288,7 +344,7 @@ fn corners(size: Size, inside: i128) -> Vec<u8> {
             .moving(2, -1)
             .with_b([9, -8, 7, -6])
     };
-    pack_records(&[
+    marked_records(&[
         at(1, low, low),
         at(2, right, low),
         at(3, low, top),

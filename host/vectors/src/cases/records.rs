@@ -1,8 +1,9 @@
 //! Read a record, write a record, weights.
 
+use reference::limits::RECORD_LENGTH;
 use reference::Particle;
 
-use super::{bytes, case, lone};
+use super::{bytes, case, lone, marked, printed};
 use crate::{Case, Operation};
 
 pub fn cases() -> Vec<Case> {
@@ -19,6 +20,7 @@ fn largest() -> Particle {
     Particle::at_rest(u16::MAX, 1023, 4095, 4095)
         .moving(63, 63)
         .with_b([2047; 4])
+        .with_marks(u8::MAX)
 }
 
 /// Fields that differ from each other, so that an exchange shows.
@@ -26,6 +28,7 @@ fn distinct() -> Particle {
     Particle::at_rest(258, 5, 77, 1033)
         .moving(-6, 7)
         .with_b([-800, 901, 1002, -1103])
+        .with_marks(147)
 }
 
 /// B with one entry.
@@ -37,6 +40,23 @@ fn entry(index: usize, b: i128) -> [i128; 4] {
 
 const ENTRIES: [&str; 4] = ["Bxx", "Bxy", "Byx", "Byy"];
 
+/// Marks at their ends, next to them, and half way, of [`distinct`] and of records with every other bit 0
+/// and 1 but for a mass.
+fn marks() -> Vec<(String, Particle)> {
+    let zeros = Particle::at_rest(0, 1, 0, 0);
+    let ones = Particle::at_rest(u16::MAX, 1023, 4095, 4095)
+        .moving(-1, -1)
+        .with_b([-1; 4]);
+    let mut particles = Vec::new();
+    for marks in [0, 1, 127, 128, 254, 255] {
+        for (name, other) in [("", distinct()), ("-zeros", zeros), ("-ones", ones)] {
+            let name = format!("marks-{marks}{name}");
+            particles.push((name, other.with_marks(marks)));
+        }
+    }
+    particles
+}
+
 fn read_cases() -> Vec<Case> {
     let read = |name: &str, particle: Particle, number: u32| {
         let stated = (number > 0).then_some((number, 0));
@@ -44,14 +64,21 @@ fn read_cases() -> Vec<Case> {
         case(name, Operation::ReadRecord, bytes(particle.pack()), stated)
     };
     let mut cases = Vec::new();
-    for length in [0, 1, 13, 15, 28] {
+    for length in [
+        0,
+        1,
+        RECORD_LENGTH - 1,
+        RECORD_LENGTH + 1,
+        2 * RECORD_LENGTH,
+    ] {
         let name = format!("read-record/length-{length}");
         let buffers = bytes(vec![0; length]);
         cases.push(case(name, Operation::ReadRecord, buffers, Some((1, 0))));
     }
+    let lone = |identifier| marked(lone(identifier));
     let zero = Particle { mass: 0, ..lone(0) };
     cases.extend([
-        read("printed", Particle::at_rest(7, 2, 64, 64).moving(3, -2), 0),
+        read("printed", printed(), 0),
         read("distinct-fields", distinct(), 0),
         read("smallest", smallest(), 0),
         read("largest", largest(), 0),
@@ -72,7 +99,11 @@ fn read_cases() -> Vec<Case> {
     }
     for (name, byte, stated) in [("all-00", 0x00, Some((4, 0))), ("all-FF", 0xFF, None)] {
         let name = format!("read-record/{name}");
-        cases.push(case(name, Operation::ReadRecord, bytes([byte; 14]), stated));
+        let buffers = bytes([byte; RECORD_LENGTH]);
+        cases.push(case(name, Operation::ReadRecord, buffers, stated));
+    }
+    for (name, particle) in marks() {
+        cases.push(read(&name, particle, 0));
     }
     cases
 }
@@ -82,13 +113,15 @@ fn write_cases() -> Vec<Case> {
         let stated = (number > 0).then_some((number, 0));
         let operation = Operation::WriteRecord(particle);
         let name = format!("write-record/{name}");
-        case(name, operation, bytes([0xA5; 14]), stated)
+        case(name, operation, bytes([0xA5; RECORD_LENGTH]), stated)
     };
+    let lone = |identifier| marked(lone(identifier));
     let broken = Particle::at_rest(0, 0, 4096, 4096)
         .moving(64, 64)
-        .with_b([2048; 4]);
+        .with_b([2048; 4])
+        .with_marks(93);
     let mut cases = vec![
-        write("printed", Particle::at_rest(7, 2, 64, 64).moving(3, -2), 0),
+        write("printed", printed(), 0),
         write("distinct-fields", distinct(), 0),
         write("smallest", smallest(), 0),
         write("largest", largest(), 0),
@@ -115,7 +148,7 @@ fn write_cases() -> Vec<Case> {
         write("x-4095", Particle { x: 4095, ..lone(1) }, 0),
         write("y-4095", Particle { y: 4095, ..lone(1) }, 0),
     ];
-    for length in [0, 13, 15, 28] {
+    for length in [0, RECORD_LENGTH - 1, RECORD_LENGTH + 1, 2 * RECORD_LENGTH] {
         let name = format!("write-record/length-{length}");
         let buffers = bytes(vec![0xA5; length]);
         let operation = Operation::WriteRecord(broken);
@@ -139,6 +172,9 @@ fn write_cases() -> Vec<Case> {
             let particle = lone(1).with_b(entry(index, b));
             cases.push(write(&format!("{name}-{b}"), particle, number));
         }
+    }
+    for (name, particle) in marks() {
+        cases.push(write(&name, particle, 0));
     }
     cases
 }

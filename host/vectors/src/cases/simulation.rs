@@ -1,10 +1,11 @@
 //! Step, run, and lists of both.
 
+use reference::limits::RECORD_LENGTH;
 use reference::particle_set::pack_records;
 use reference::{Edge, Grid, Particle, Settings, Size};
 
-use super::{broken, case, copies, corners, edge_name, heaviest, lone};
-use super::{refused_forcings, refused_sets, used_grid, with_grid};
+use super::{broken, case, copies, corners, differing_marks, edge_name, heaviest, lone, marked};
+use super::{marked_records, printed, refused_forcings, refused_sets, used_grid, with_grid};
 use super::{REFUSED_GRIDS, REFUSED_SIZES, SMALL};
 use crate::{Buffers, Case, Operation};
 
@@ -22,6 +23,8 @@ pub fn cases() -> Vec<Case> {
         drifting_list(),
         spreading_list(),
         held_list(),
+        marks(),
+        marks_list(),
     ]
     .concat()
 }
@@ -33,7 +36,7 @@ fn entry_refusals(name: &str, operation: fn(Settings) -> Operation) -> Vec<Case>
     let mut cases = Vec::new();
     for (size_name, size) in REFUSED_SIZES {
         let operation = operation(broken(size));
-        let buffers = with_grid([0xA5; 13], SMALL);
+        let buffers = with_grid([0xA5; RECORD_LENGTH - 1], SMALL);
         cases.push(case(
             format!("{name}/{size_name}"),
             operation,
@@ -41,7 +44,7 @@ fn entry_refusals(name: &str, operation: fn(Settings) -> Operation) -> Vec<Case>
             Some((2, 0)),
         ));
     }
-    let massless = Particle { mass: 0, ..lone(0) }.pack();
+    let massless = marked(Particle { mass: 0, ..lone(0) }).pack();
     for (grid_name, change) in REFUSED_GRIDS {
         let operation = operation(broken(SMALL));
         let mut buffers = with_grid(massless, SMALL);
@@ -72,7 +75,7 @@ fn entry_refusals(name: &str, operation: fn(Settings) -> Operation) -> Vec<Case>
 }
 
 fn run_refusals() -> Vec<Case> {
-    let massless = Particle { mass: 0, ..lone(0) }.pack();
+    let massless = marked(Particle { mass: 0, ..lone(0) }).pack();
     let still = Settings::new(SMALL, 0, 0);
     let run = |name: &str, settings: Settings, steps: i128, number: u32| {
         let operation = Operation::Run(settings, steps);
@@ -106,7 +109,7 @@ fn bursting() -> [Particle; 2] {
 fn step_cases() -> Vec<Case> {
     let step = |name: &str, size: Size, gx: i128, particles: &[Particle], stated| {
         let operation = Operation::Step(Settings::new(size, gx, 0));
-        let buffers = with_grid(pack_records(particles), size);
+        let buffers = with_grid(marked_records(particles), size);
         case(format!("step/{name}"), operation, buffers, stated)
     };
     let heavy = Particle { mass: 2, ..lone(2) };
@@ -116,13 +119,6 @@ fn step_cases() -> Vec<Case> {
     let fast = Particle::at_rest(5, 1, 200, 200).moving(63, 0);
     vec![
         step("empty", SMALL, 4096, &[], None),
-        step(
-            "printed",
-            SMALL,
-            0,
-            &[Particle::at_rest(7, 2, 64, 64).moving(3, -2)],
-            None,
-        ),
         step("gx-127", SMALL, 127, &[lone(1)], None),
         step("gx-128", SMALL, 128, &[lone(1)], None),
         step("gx-129", SMALL, 129, &[lone(1)], None),
@@ -226,7 +222,7 @@ fn step_edges_and_drags() -> Vec<Case> {
     for edge in Edge::ALL {
         for drag in [0, 1, 90, 255] {
             for (nx, ny, records) in [
-                (8, 9, pack_records(&near_each_other())),
+                (8, 9, marked_records(&near_each_other())),
                 (4, 4, corners(SMALL, 5)),
                 (4, 5, corners(Size::new(4, 5), 5)),
             ] {
@@ -248,7 +244,7 @@ fn run_edges_and_drags() -> Vec<Case> {
         let settings = Settings::new(Size::new(9, 7), 0, 0);
         let settings = settings.with_edge(edge).with_drag(drag);
         let operation = Operation::Run(settings, 80);
-        let buffers = with_grid(pack_records(particles), settings.size);
+        let buffers = with_grid(marked_records(particles), settings.size);
         case(format!("run/{name}"), operation, buffers, stated)
     };
     vec![
@@ -270,7 +266,7 @@ fn run_edges_and_drags() -> Vec<Case> {
 
 fn examples() -> Vec<Case> {
     let run = |name: &str, settings: Settings, steps: i128, particles: &[Particle], stated| {
-        let buffers = with_grid(pack_records(particles), settings.size);
+        let buffers = with_grid(marked_records(particles), settings.size);
         let operation = Operation::Run(settings, steps);
         case(format!("run/{name}"), operation, buffers, stated)
     };
@@ -361,7 +357,11 @@ type ListCall = (Operation, Grid, Option<(u32, usize)>);
 
 /// The calls of a list, each with the records that the one before left.
 fn list(name: &str, start: &[Particle], calls: &[ListCall]) -> Vec<Case> {
-    let mut bytes = pack_records(start);
+    list_of(name, marked_records(start), calls)
+}
+
+/// The same from these records on.
+fn list_of(name: &str, mut bytes: Vec<u8>, calls: &[ListCall]) -> Vec<Case> {
     let mut cases = Vec::new();
     for (number, (operation, grid, stated)) in calls.iter().enumerate() {
         let buffers = Buffers {
@@ -457,4 +457,83 @@ fn held_list() -> Vec<Case> {
         run(falling.with_edge(Edge::sticky(3)), 3, None),
     ];
     list("held", &start, &calls)
+}
+
+/// Two particles with the marks that they are given, out of each other's reach: one glides, one rests,
+/// also under a gravity of some 256ths, which is rounded away.
+fn apart() -> [Particle; 2] {
+    [
+        Particle::at_rest(40, 3, 100, 100)
+            .moving(7, 0)
+            .with_marks(255),
+        Particle::at_rest(500, 9, 300, 400).with_marks(12),
+    ]
+}
+
+/// The grid of the calls on marks; x is 32 to 415 on it.
+const UPRIGHT: Size = Size { nx: 8, ny: 9 };
+
+/// Steps and runs of records with the marks that they are given: completed, stopped and refused.
+fn marks() -> Vec<Case> {
+    let call = |name: &str, operation: Operation, size: Size, particles: &[Particle], stated| {
+        let buffers = with_grid(pack_records(particles), size);
+        case(name, operation, buffers, stated)
+    };
+    let settings = |gx, gy| Settings::new(UPRIGHT, gx, gy);
+    let step = |name: &str, settings, stated| {
+        let name = format!("step/marks{name}");
+        let operation = Operation::Step(settings);
+        call(&name, operation, UPRIGHT, &differing_marks(), stated)
+    };
+    let run = |name: &str, settings: Settings, steps, particles: &[Particle], stated| {
+        let name = format!("run/marks{name}");
+        let operation = Operation::Run(settings, steps);
+        call(&name, operation, settings.size, particles, stated)
+    };
+    let held = settings(9, -30).with_edge(Edge::sticky(2)).with_drag(7);
+    let pulled = Settings::new(Size::new(48, 9), 129, 0);
+    vec![
+        call(
+            "step/printed",
+            Operation::Step(Settings::new(SMALL, 0, 0)),
+            SMALL,
+            &[printed()],
+            None,
+        ),
+        step("", settings(9, -30), None),
+        step("-held", held, None),
+        step("-10", settings(9, -4097), Some((10, 0))),
+        step("-18", held.with_edge(Edge::sticky(4)), Some((18, 0))),
+        run("", settings(9, -30), 6, &differing_marks(), None),
+        run("-held", held, 300, &differing_marks(), None),
+        run("-0-steps", settings(9, -30), 0, &differing_marks(), None),
+        run("-17", held, 10_001, &differing_marks(), Some((17, 0))),
+        run("-stopped-by-13", pulled, 100, &apart(), Some((13, 0))),
+        run(
+            "-stopped-by-15",
+            settings(0, 3),
+            100,
+            &apart(),
+            Some((15, 0)),
+        ),
+    ]
+}
+
+/// Records with the marks that they are given, through calls of every kind.
+fn marks_list() -> Vec<Case> {
+    let settings = Settings::new(UPRIGHT, 0, 3);
+    let step = |s: Settings, stated| (Operation::Step(s), used_grid(s.size), stated);
+    let run = |s: Settings, steps, stated| (Operation::Run(s, steps), used_grid(s.size), stated);
+    let pulled = Settings::new(UPRIGHT, 4097, 3);
+    let calls = [
+        step(settings, None),
+        run(settings, 12, None),
+        run(settings.with_drag(256), 12, Some((19, 0))),
+        step(pulled, Some((10, 0))),
+        run(settings, 10_000, Some((15, 0))),
+        step(settings, Some((15, 0))),
+        run(settings, 0, None),
+        run(settings.with_edge(Edge::sticky(3)), 5, None),
+    ];
+    list_of("marks", pack_records(&apart()), &calls)
 }

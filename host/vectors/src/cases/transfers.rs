@@ -1,12 +1,12 @@
 //! Scatter, adding scatter, update, gather.
 
-use reference::limits::{D, MAX_B, MAX_VELOCITY};
+use reference::limits::{D, MAX_B, MAX_VELOCITY, RECORD_LENGTH};
 use reference::particle_set::pack_records;
 use reference::spline::axis_weight;
 use reference::{Edge, Grid, Particle, Settings, Size};
 
-use super::{accepted_sets, broken, case, copies, corners, edge_name, heaviest, lone};
-use super::{refused_forcings, refused_sets, used_grid, with_grid};
+use super::{accepted_sets, broken, case, copies, corners, differing_marks, edge_name, heaviest};
+use super::{lone, marked, marked_records, refused_forcings, refused_sets, used_grid, with_grid};
 use super::{REFUSED_GRIDS, REFUSED_SIZES, SMALL};
 use crate::{Buffers, Case, Operation};
 
@@ -37,6 +37,7 @@ pub fn cases() -> Vec<Case> {
         gather_b_cases(),
         gather_place_cases(),
         gather_order_cases(),
+        gather_marks(),
     ]
     .concat()
 }
@@ -54,12 +55,12 @@ fn scatter_refusals(
     };
     let mut cases = Vec::new();
     for (name, size) in REFUSED_SIZES {
-        let buffers = with_grid([0xA5; 13], SMALL);
+        let buffers = with_grid([0xA5; RECORD_LENGTH - 1], SMALL);
         cases.push(refused(name, size, buffers, (2, 0)));
     }
     for (name, change) in REFUSED_GRIDS {
         // The set would be refused too, after the length.
-        let mut buffers = with_grid(Particle { mass: 0, ..lone(0) }.pack(), SMALL);
+        let mut buffers = with_grid(marked(Particle { mass: 0, ..lone(0) }).pack(), SMALL);
         change(&mut buffers.grid);
         cases.push(refused(name, SMALL, buffers, (1, 0)));
     }
@@ -74,7 +75,8 @@ fn scatter_cases(scatter: &str, operation: fn(Size) -> Operation) -> Vec<Case> {
         let name = format!("{scatter}/{name}");
         case(name, operation(size), with_grid(records, size), None)
     };
-    let small = |name: &str, particles: &[Particle]| scatter(name, SMALL, pack_records(particles));
+    let small =
+        |name: &str, particles: &[Particle]| scatter(name, SMALL, marked_records(particles));
     let mut cases: Vec<Case> = accepted_sets()
         .into_iter()
         .map(|(name, records)| scatter(name, SMALL, records))
@@ -152,7 +154,7 @@ const REACHED: [(usize, u64); 3] = [
 fn section() -> Vec<u8> {
     let at =
         |identifier, mass, i: i128, j: i128| Particle::at_rest(identifier, mass, 64 * i, 64 * j);
-    pack_records(&[
+    marked_records(&[
         at(2, 5, 1, 1).moving(9, -62).with_b([800, -1, 2, -2000]),
         at(3, 7, 3, 1).moving(-40, 3).with_b([-7, 600, 50, 4]),
         at(8, 11, 4, 2).moving(63, 1).with_b([2047, -300, -2, 91]),
@@ -335,7 +337,7 @@ fn adding_cases() -> Vec<Case> {
         add(
             "heaviest-to-distinct",
             OBLONG,
-            pack_records(&heaviest(largest_momentum(-1))),
+            marked_records(&heaviest(largest_momentum(-1))),
             distinct_grid(OBLONG),
         ),
     ]
@@ -597,7 +599,7 @@ fn gather_uniform(
 ) -> Case {
     let mut grid = Grid::filled(size.nodes(), 0, ux, uy);
     grid.mass.clear();
-    let bytes = pack_records(particles);
+    let bytes = marked_records(particles);
     let operation = Operation::Gather(size);
     let name = format!("gather/{name}");
     case(name, operation, Buffers { bytes, grid }, stated)
@@ -620,7 +622,7 @@ pub fn gather_field(
 ) -> Case {
     let mass = Vec::new();
     let grid = Grid { mass, x, y };
-    let bytes = pack_records(particles);
+    let bytes = marked_records(particles);
     let operation = Operation::Gather(size);
     let name = format!("gather/{name}");
     case(name, operation, Buffers { bytes, grid }, stated)
@@ -635,7 +637,7 @@ fn gather_refusals() -> Vec<Case> {
     };
     let mut cases = Vec::new();
     for (name, size) in REFUSED_SIZES {
-        let buffers = velocities(with_grid([0xA5; 13], SMALL));
+        let buffers = velocities(with_grid([0xA5; RECORD_LENGTH - 1], SMALL));
         let operation = Operation::Gather(size);
         cases.push(case(
             format!("gather/{name}"),
@@ -645,7 +647,8 @@ fn gather_refusals() -> Vec<Case> {
         ));
     }
     for (name, change) in &REFUSED_GRIDS[2..] {
-        let mut buffers = velocities(with_grid(Particle { mass: 0, ..lone(0) }.pack(), SMALL));
+        let massless = marked(Particle { mass: 0, ..lone(0) });
+        let mut buffers = velocities(with_grid(massless.pack(), SMALL));
         change(&mut buffers.grid);
         let operation = Operation::Gather(SMALL);
         cases.push(case(
@@ -846,5 +849,30 @@ fn gather_order_cases() -> Vec<Case> {
             (-256, 0),
             Some((15, 1)),
         ),
+    ]
+}
+
+/// Records with the marks that they are given, gathered and refused.
+fn gather_marks() -> Vec<Case> {
+    let size = Size::new(8, 9);
+    let gather = |name: &str, ux: i64, uy: i64, stated| {
+        let grid = Grid {
+            mass: Vec::new(),
+            x: field(size, |i, j| ux + 30 * i - 50 * j),
+            y: field(size, |i, j| uy - 20 * i * j),
+        };
+        let bytes = pack_records(&differing_marks());
+        let name = format!("gather/marks{name}");
+        case(
+            name,
+            Operation::Gather(size),
+            Buffers { bytes, grid },
+            stated,
+        )
+    };
+    vec![
+        gather("", 700, -300, None),
+        gather("-13", 16_900, 0, Some((13, 0))),
+        gather("-12", 0, 131_073, Some((12, 0))),
     ]
 }

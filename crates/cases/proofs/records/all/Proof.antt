@@ -4,6 +4,7 @@ use native.Mathlib.Omega.{arith}
 use lib.ListN.{length}
 use lib.Seq.{length-take-le}
 use borrow.Author.Needs.{needs}
+use Rattle.particle.specs.Layout.{recordLength}
 use Rattle.cases.proofs.records.all.Statement.{statement}
 use Rattle.cases.proofs.records.all.Tie as tie
 
@@ -17,7 +18,7 @@ loop-holds : tie.Need-loop-holds Inv-loop μ-loop
 loop-holds c = search needs
 
 slice-aggregate-one : tie.Need-slice-aggregate-one Inv-loop μ-loop
-slice-aggregate-one c = sym (length-take-le 14 (c .before .before .loop .rest .now) (omega arith))
+slice-aggregate-one c = sym (length-take-le recordLength (c .before .before .loop .rest .now) (omega arith))
 
 one-requires : tie.Need-one-requires Inv-loop μ-loop
 one-requires c κs = search needs

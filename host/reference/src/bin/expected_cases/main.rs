@@ -34,12 +34,13 @@ impl Kept {
         &mut self.room[..self.end]
     }
 
-    /// Records alike from a place on, with identifiers that rise from the first one's.
+    /// Records alike from a place on, with identifiers and marks that rise from the first one's.
     fn fill(&mut self, from: usize, end: usize, fields: &[i128]) {
         let mut record = particle(fields);
         for part in self.room[from..].chunks_mut(RECORD_LENGTH) {
             part.copy_from_slice(&record.pack()[..part.len()]);
             record.identifier = record.identifier.wrapping_add(1);
+            record.marks = record.marks.wrapping_add(1);
         }
         self.end = end;
     }
@@ -56,12 +57,13 @@ impl Kept {
 }
 
 fn particle(fields: &[i128]) -> Particle {
-    let &[identifier, mass, x, y, vx, vy, bxx, bxy, byx, byy] = fields else {
-        panic!("not ten fields: {fields:?}");
+    let &[identifier, mass, x, y, vx, vy, bxx, bxy, byx, byy, marks] = fields else {
+        panic!("not eleven fields: {fields:?}");
     };
     Particle::at_rest(identifier as u16, mass, x, y)
         .moving(vx, vy)
         .with_b([bxx, bxy, byx, byy])
+        .with_marks(marks as u8)
 }
 
 fn settings(numbers: &[i128]) -> Settings {
@@ -85,10 +87,7 @@ fn on_bytes(line: &Line, kept: &mut Kept) -> Option<String> {
         }
         ("totals", &[nx, ny]) => {
             let found = totals(Size::new(nx, ny), lent);
-            values(
-                'v',
-                found.map(|t| [t.mass, t.px, t.py, t.angular_momentum, t.motion]),
-            )
+            values('v', found.map(|t| t.values()))
         }
         ("file", []) => values('v', read_file(lent).map(|header| header.values())),
         ("write", fields) => answer(write_record(&particle(fields), lent)) + &kept.shown(),

@@ -1,0 +1,1 @@
+// Marks travel with their records: specs/ and proofs/ hold it, and there is no function.
