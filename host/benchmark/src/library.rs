@@ -10,7 +10,6 @@ use std::process::Command;
 pub use engine::library::{Library, PROVED};
 
 use engine::library::Functions;
-use engine::{Particle, RECORD_LENGTH};
 use optimised::c;
 
 /// The functions of a library, each made by a macro from its name here and its name in C.
@@ -124,87 +123,4 @@ pub unsafe fn load(archive: &Path, room: &Path, name: &str) -> Result<Library, S
     let functions: Functions = functions!(loaded);
     // SAFETY: by what is asked of the caller.
     Ok(unsafe { Library::new(functions) })
-}
-
-/// A library with the length of its records: the engine's, or a byte less where they have no marks.
-#[derive(Clone, Copy)]
-pub struct Build {
-    library: Library,
-    record_length: usize,
-}
-
-/// The function that writes a record without marks.
-type WriteUnmarked =
-    unsafe extern "C" fn(u16, u64, u64, u64, i64, i64, i64, i64, i64, i64, *mut u8, usize) -> u64;
-
-impl From<Library> for Build {
-    fn from(library: Library) -> Self {
-        Build {
-            library,
-            record_length: RECORD_LENGTH,
-        }
-    }
-}
-
-impl Build {
-    /// A library whose records have no marks, and whose totals do not sum them.
-    ///
-    /// # Safety
-    ///
-    /// It is one: the function that writes a record takes no marks.
-    pub unsafe fn unmarked(library: Library) -> Self {
-        Build {
-            library,
-            record_length: RECORD_LENGTH - 1,
-        }
-    }
-
-    /// Its calls.
-    pub fn library(&self) -> &Library {
-        &self.library
-    }
-
-    /// The length of its records.
-    pub fn record_length(&self) -> usize {
-        self.record_length
-    }
-
-    /// Writes a record for each particle; 0 where none is refused.
-    pub fn write_records(&self, particles: &[Particle], records: &mut [u8]) -> u64 {
-        let records = records.chunks_exact_mut(self.record_length);
-        let both = particles.iter().zip(records);
-        if self.record_length == RECORD_LENGTH {
-            both.fold(0, |answer, (p, record)| {
-                answer | self.library.write_record(p, record)
-            })
-        } else {
-            both.fold(0, |answer, (p, record)| {
-                answer | self.write_unmarked(p, record)
-            })
-        }
-    }
-
-    /// Writes a record without marks. Not inlined, as the library's call with marks is not.
-    #[inline(never)]
-    fn write_unmarked(&self, p: &Particle, bytes: &mut [u8]) -> u64 {
-        let write = self.library.functions().write_record as *const c_void;
-        // SAFETY: `unmarked` was given a library whose function this is; the pointer is that of a slice
-        // with its length.
-        unsafe {
-            transmute::<*const c_void, WriteUnmarked>(write)(
-                p.identifier,
-                p.mass,
-                p.x,
-                p.y,
-                p.vx,
-                p.vy,
-                p.bxx,
-                p.bxy,
-                p.byx,
-                p.byy,
-                bytes.as_mut_ptr(),
-                bytes.len(),
-            )
-        }
-    }
 }

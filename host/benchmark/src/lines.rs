@@ -4,7 +4,7 @@ use engine::{read_record, Edge, GridBuffers, Header, Particle, Settings};
 use engine::{HEADER_LENGTH, RECORD_LENGTH};
 
 use crate::bath::Bath;
-use crate::library::{Build, PROVED};
+use crate::library::{Library, PROVED};
 use crate::measure::Subject;
 
 /// An operation, or as many calls of it as the bath has records.
@@ -78,9 +78,6 @@ impl Line {
 pub struct Timed {
     line: Line,
     bath: Bath,
-    /// The length of the records that the buffers hold.
-    record_length: usize,
-    set: Vec<u8>,
     file: Vec<u8>,
     particles: Vec<Particle>,
     records: Vec<u8>,
@@ -111,8 +108,6 @@ impl Timed {
         Timed {
             line,
             bath: bath.clone(),
-            record_length: RECORD_LENGTH,
-            set: bath.records.clone(),
             file: bath.file(),
             particles: records
                 .map(|record| read_record(record).expect("a record"))
@@ -124,18 +119,6 @@ impl Timed {
             velocity: [x.clone(), y.clone()],
             grid: [x, y],
         }
-    }
-
-    /// Lays out the records in this length, in the same memory.
-    fn lay_out(&mut self, record_length: usize) {
-        self.record_length = record_length;
-        self.set.clear();
-        for record in self.bath.records.chunks_exact(RECORD_LENGTH) {
-            self.set.extend(&record[..record_length]);
-        }
-        self.file.truncate(HEADER_LENGTH);
-        self.file.extend(&self.set);
-        self.records.clone_from(&self.set);
     }
 
     /// How many steps or records one call stands for.
@@ -151,10 +134,7 @@ impl Timed {
 }
 
 impl Subject for Timed {
-    fn prepare(&mut self, build: &Build) {
-        if self.record_length != build.record_length() {
-            self.lay_out(build.record_length());
-        }
+    fn prepare(&mut self) {
         if self.line == Line::AddingScatter {
             self.mass.copy_from_slice(&self.scattered);
         }
@@ -163,16 +143,19 @@ impl Subject for Timed {
                 self.grid[0].copy_from_slice(&self.momentum[0]);
                 self.grid[1].copy_from_slice(&self.momentum[1]);
             }
-            Line::Gather | Line::Step | Line::Run(..) => self.records.copy_from_slice(&self.set),
+            Line::Gather | Line::Step | Line::Run(..) => {
+                self.records.copy_from_slice(&self.bath.records)
+            }
             _ => {}
         }
     }
 
-    fn call(&mut self, build: &Build) {
+    fn call(&mut self, library: &Library) {
         let Bath {
-            settings, steps, ..
+            settings,
+            ref records,
+            steps,
         } = self.bath;
-        let (library, records) = (build.library(), &self.set);
         let [x, y] = &mut self.grid;
         let mut grid = GridBuffers {
             mass: &mut self.mass,
@@ -209,12 +192,18 @@ impl Subject for Timed {
             Line::ReadFile => library.read_file(&self.file, &mut [0; 9]),
             Line::ReadRecords => {
                 let mut values = [0; 11];
-                let records = records.chunks_exact(self.record_length);
+                let records = records.chunks_exact(RECORD_LENGTH);
                 records.fold(0, |answer, record| {
                     answer | library.read_record(record, &mut values)
                 })
             }
-            Line::WriteRecords => build.write_records(&self.particles, &mut self.records),
+            Line::WriteRecords => {
+                let records = self.records.chunks_exact_mut(RECORD_LENGTH);
+                let both = self.particles.iter().zip(records);
+                both.fold(0, |answer, (p, record)| {
+                    answer | library.write_record(p, record)
+                })
+            }
             Line::Weights => {
                 let mut values = [0; 3];
                 let offsets = self.particles.iter().map(|p| (p.x % 64) as i64 - 32);

@@ -11,7 +11,7 @@ fn main() {
     println!("median of {rounds} rounds, both libraries in turn in each; the spread has nine rounds in ten");
     let head = ["proved", "Rust", "ratio", "nine in ten"];
     tables(
-        [&[PROVED.into()], &[OPTIMISED.into()]],
+        [&[PROVED], &[OPTIMISED]],
         rounds,
         &chosen,
         &head,

@@ -2,7 +2,7 @@
 
 use std::time::{Duration, Instant};
 
-use crate::library::Build;
+use crate::library::Library;
 
 /// Time of one call by each of two libraries, in nanoseconds, and the first's over the second's: medians
 /// over the rounds, and how sure they are.
@@ -24,19 +24,19 @@ const PART: Duration = Duration::from_millis(4);
 
 /// What is timed.
 pub trait Subject {
-    /// Puts the buffers back, as a library has them.
-    fn prepare(&mut self, build: &Build);
+    /// Puts the buffers back.
+    fn prepare(&mut self);
     /// The call that is timed.
-    fn call(&mut self, build: &Build);
+    fn call(&mut self, library: &Library);
 }
 
 /// The median time of `repeats` calls.
-fn time(subject: &mut dyn Subject, build: &Build, repeats: u32) -> f64 {
+fn time(subject: &mut dyn Subject, library: &Library, repeats: u32) -> f64 {
     let mut times = Vec::new();
     for _ in 0..repeats {
-        subject.prepare(build);
+        subject.prepare();
         let start = Instant::now();
-        subject.call(build);
+        subject.call(library);
         times.push(start.elapsed().as_secs_f64() * 1e9);
     }
     at(&sorted(times), 0.5)
@@ -54,17 +54,17 @@ fn sorted(mut numbers: Vec<f64>) -> Vec<f64> {
 
 /// Times two libraries in turn, each first in every other round. Of each there may be several copies,
 /// which take turns as well, so that no place in memory decides.
-pub fn measure(subject: &mut dyn Subject, builds: [&[Build]; 2], rounds: usize) -> Measured {
-    let once = builds.map(|copies| time(subject, &copies[0], 3));
+pub fn measure(subject: &mut dyn Subject, libraries: [&[Library]; 2], rounds: usize) -> Measured {
+    let once = libraries.map(|copies| time(subject, &copies[0], 3));
     let longer = once[0].max(once[1]);
     let repeats = (PART.as_secs_f64() * 1e9 / longer).clamp(5.0, 20_000.0) as u32;
     let mut times = [Vec::new(), Vec::new()];
     for round in 0..rounds {
         for turn in 0..2 {
             let which = (round + turn) % 2;
-            let copies = builds[which];
-            let build = &copies[round / 2 % copies.len()];
-            times[which].push(time(subject, build, repeats));
+            let copies = libraries[which];
+            let library = &copies[round / 2 % copies.len()];
+            times[which].push(time(subject, library, repeats));
         }
     }
     let ratios = times[0].iter().zip(&times[1]).map(|(a, b)| a / b);

@@ -1,7 +1,7 @@
 //! Tables of times: two libraries on a full bath, on a small one, and on baths of growing sizes.
 
 use crate::bath::Bath;
-use crate::library::Build;
+use crate::library::Library;
 use crate::lines::{Line, Timed};
 use crate::measure::{measure, Measured};
 
@@ -42,7 +42,7 @@ fn is_wanted(name: &str, chosen: &str) -> bool {
 /// Prints the tables of two libraries, each with its copies. `head` names the columns after the first, and `row` tells what stands there, for a
 /// line's name with its bath, what was measured, and how many parts a call has.
 pub fn tables(
-    builds: [&[Build]; 2],
+    libraries: [&[Library]; 2],
     rounds: usize,
     chosen: &str,
     head: &[&str],
@@ -54,7 +54,7 @@ pub fn tables(
     };
     let mut line = |name: &str, line: Line, bath: &Bath| {
         let mut timed = Timed::new(line, bath);
-        let found = measure(&mut timed, builds, rounds);
+        let found = measure(&mut timed, libraries, rounds);
         let whole = format!("{}, {bath}", line.name());
         println!(
             "| {name} | {} |",

@@ -170,12 +170,6 @@ impl Library {
         Library { functions }
     }
 
-    /// Its functions.
-    #[must_use]
-    pub fn functions(&self) -> &Functions {
-        &self.functions
-    }
-
     /// Read a record: eleven values.
     #[must_use]
     pub fn read_record(&self, bytes: &[u8], values: &mut [i64; 11]) -> u64 {

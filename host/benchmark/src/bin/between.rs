@@ -1,19 +1,17 @@
 //! Times one build of the static library against another.
 //!
-//! `between BEFORE AFTER [ROUNDS] [[-]NAME]`: both are static libraries, FILE or, where its records have no marks,
-//! `unmarked:FILE`; 101 rounds where no number is given; only the lines whose name has NAME in it, or, with -NAME,
-//! has not. The ratio is that of AFTER to BEFORE. The same library twice tells what the machine's noise is.
+//! `between BEFORE AFTER [ROUNDS] [[-]NAME]`: both are static libraries; 101 rounds where no number is given;
+//! only the lines whose name has NAME in it, or, with -NAME, has not. The ratio is that of AFTER to BEFORE. The
+//! same library twice tells what the machine's noise is.
 
 use std::path::Path;
 
-use benchmark::library::{load, Build};
+use benchmark::library::{load, Library};
 use benchmark::tables::{arguments, duration, tables};
 use program::Room;
 
 /// How often each is loaded.
 const COPIES: usize = 4;
-/// What stands before the name of a library whose records have no marks.
-const UNMARKED: &str = "unmarked:";
 /// What a line may lose.
 const MOST: f64 = 1.02;
 
@@ -21,21 +19,14 @@ fn main() {
     let usage = "between BEFORE AFTER [ROUNDS] [[-]NAME]";
     let (files, rounds, chosen) = arguments(2, usage);
     let room = Room::new("between");
-    let load = |file: &str, name: String| {
+    let load = |file: &String, name: String| -> Library {
         // SAFETY: whoever runs this says that it is a build of the library.
         let library = unsafe { load(Path::new(file), &room.path(""), &name) };
         library.unwrap_or_else(|why| panic!("{file}: {why}"))
     };
     let copies = |k: usize| {
-        let copy = |n: usize| {
-            let name = format!("{k}-{n}");
-            match files[k].strip_prefix(UNMARKED) {
-                // SAFETY: whoever runs this says so.
-                Some(file) => unsafe { Build::unmarked(load(file, name)) },
-                None => load(&files[k], name).into(),
-            }
-        };
-        (0..COPIES).map(copy).collect::<Vec<Build>>()
+        let copy = |n: usize| load(&files[k], format!("{k}-{n}"));
+        (0..COPIES).map(copy).collect::<Vec<Library>>()
     };
     let (before, after) = (copies(0), copies(1));
     println!(

@@ -4,7 +4,7 @@
 //! name in the benchmark's table.
 
 use benchmark::bath::Bath;
-use benchmark::library::{Build, OPTIMISED, PROVED};
+use benchmark::library::{OPTIMISED, PROVED};
 use benchmark::lines::{Line, Timed};
 use benchmark::measure::Subject;
 
@@ -17,11 +17,10 @@ fn main() {
     let bath = Bath::new(number(particles), number(side), 40);
     let line = Line::ALL.into_iter().find(|line| line.name() == name);
     let mut timed = Timed::new(line.expect("the name of an operation"), &bath);
-    let [proved, rust] = [PROVED, OPTIMISED].map(Build::from);
-    timed.prepare(&proved);
+    timed.prepare();
     match library.as_str() {
-        "proved" => timed.call(&proved),
-        "rust" => timed.call(&rust),
+        "proved" => timed.call(&PROVED),
+        "rust" => timed.call(&OPTIMISED),
         "none" => {}
         other => panic!("no such library: {other}"),
     }
