@@ -2,9 +2,9 @@
  * Holds the static library and its header to what the header says: every limit of a record, of a
  * header and of a run's settings at its edge and far beyond, those of a set, of a node, of a node that
  * is added to and of an offset at their edge and one beyond, what drag and edges leave of a node's
- * velocity, sets that are added in parts, every number of marks and what leaves them, totals, refusals
- * by name and by text, empty slices, and a file that is written and read back. Exits with 1 where
- * something differs, and says where.
+ * velocity, sets that are added in parts, every number of marks, and that calls leave them, totals,
+ * refusals by name and by text, empty slices, and a file that is written and read back. Exits with 1
+ * where something differs, and says where.
  */
 #include <inttypes.h>
 #include <stdio.h>
@@ -600,7 +600,7 @@ static void answers(void)
     same("length of the longest set", GONDWIZE_MOST_SET_LENGTH, 61440);
 }
 
-/* ---- Marks: every number of them, and those of three records, which calls of every kind leave. */
+/* ---- Marks: every number of them, and those of three records, which gather, step and run leave. */
 
 static void each_number_of_marks(void)
 {

@@ -1,7 +1,7 @@
 -- Gather, step and run leave identifiers and marks as they are.
 --     arrives-labels      completed steps
---     call-labels, calls-labels
---                         a call of step or run: refused at entry it leaves the records, and else they are accepted; a list of calls
+--     call-labels         a call of step or run: refused at entry it leaves the records, and else they were accepted
+--     calls-labels        a list of calls
 --     gather-keeps-marks, step-keeps-marks, run-keeps-marks, calls-keep-marks
 --                         the theorems
 -- Assumes nothing.
@@ -42,7 +42,7 @@ use Rattle.marks.specs.Marks.{KeepsMarks, GatherKeepsMarks, StepKeepsMar
 abbrev labelsIn : List ℕ → List (ℕ × ℕ)
 labelsIn records = map label (particlesIn records)
 
--- and so the sum of the marks
+-- where labels are kept, so is the sum of the marks
 keeps : {before after : List ℕ} → labelsIn after ≡ labelsIn before → KeepsMarks before after
 keeps {before} {after} e = record { each = e; sum = total-same label (λ l. l .1) (particlesIn after) (particlesIn before) e }
 

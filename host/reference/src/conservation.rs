@@ -1,4 +1,4 @@
-//! Demand 3 in whole numbers: what a list of calls keeps, and its sums, everything multiplied by 2^35.
+//! Demand 3 in whole numbers: what a list of calls keeps, and its sums, which are multiplied by 2^35.
 //! What drag and rim change at the nodes is counted with gravity.
 
 use crate::edge::Edge;

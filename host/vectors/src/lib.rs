@@ -11,9 +11,9 @@
 //!   them that it changed, or `unchanged`.
 //!   - `bytes` and `header` are hexadecimal, a part of equal bytes as `XX*COUNT`.
 //!   - `records` are `[identifier mass x y vx vy Bxx Bxy Byx Byy marks]` one after another, whatever
-//!     their bits hold; `[5..9 .. 254..2]` are records that differ in their identifiers and marks alone, which
-//!     rise together, marks from 255 to 0; `[..]*COUNT` are equal ones; bytes after the last whole record are
-//!     `+` and hexadecimal.
+//!     their bits hold; `[5..9 .. 3]` are records that differ in their rising identifiers alone,
+//!     `[5..9 .. 3..7]` in identifiers and marks that rise together; `[..]*COUNT` are equal ones; bytes after
+//!     the last whole record are `+` and hexadecimal.
 //!   - `mass`, `x`, `y` are the grid buffers in the order of the nodes, numbers with a comma between,
 //!     equal ones as `NUMBER*COUNT`; for gather, `x` and `y` are the velocity buffers.
 //!   - `none` is a buffer of no length.

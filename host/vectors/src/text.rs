@@ -149,8 +149,8 @@ fn next(particle: &Particle, more: u8) -> Option<Particle> {
     })
 }
 
-/// How many of the first particles differ in their rising identifiers alone, or in marks that rise with
-/// them.
+/// How many of the first particles differ in rising identifiers alone, or in identifiers and marks that
+/// rise together.
 fn group_length(particles: &[Particle]) -> usize {
     let rising = |more: u8| {
         let follows = |pair: &&[Particle]| next(&pair[0], more) == Some(pair[1]);
