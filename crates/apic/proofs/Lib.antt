@@ -3,6 +3,7 @@ pub mod Quadratic
 pub mod Scatter
 pub mod Edges
 pub mod Update
+pub mod Weighed
 pub mod Gather
 pub mod Conservation
 pub mod Bounds

@@ -4,7 +4,7 @@
 --     leZ-true, leZ-false, ltZ-true, ltZ-false      what a test's flag tells; is-true, ≤ℤ-leZ, <ℤ-leZ     the flag from the fact
 --     pos-mono, pos-cancel, pos-nonneg, pos-positive, nonneg-pos     the natural numbers among the integers
 --     +ℤ-mono, difference-nonneg                    sums and differences
---     *ℤ-nonneg, *ℤ-mono-left, *ℤ-cancel-left       products
+--     *ℤ-nonneg, *ℤ-mono-left, *ℤ-cancel-left, *ℤ-cancel-equal       products
 --     both-zero, factor-zero, square-nonneg, square-zero     a sum, a product and a square that are 0
 --     Within k z                    -k ≤ z ≤ k: within-sum, -difference, -scale, -cancel, -widen, -zero, -of
 -- In one line: `linear (x ∷ y ∷ []) (h & k) (search reading depth 30) (omega arith)` proves a goal `a ≤ℤ b`, `a <ℤ b`, `a ≡ b`, `Within k z` or `⊥`, or one between natural numbers, from h and k, which are such facts (`nothing` for none).
@@ -352,6 +352,9 @@ pub *ℤ-cancel-left : {a b c : ℤ} → pos 0 <ℤ c → (c *ℤ a) ≤ℤ (c *
     never : (c *ℤ (b +ℤ pos 1)) ≤ℤ (c *ℤ a) → ⊥
     never m = linear (a ∷ b ∷ c ∷ []) (h & k & m) (search reading depth 30) (omega arith)
 
+pub *ℤ-cancel-equal : {a b c : ℤ} → pos 0 <ℤ c → c *ℤ a ≡ c *ℤ b → a ≡ b
+*ℤ-cancel-equal h e = ≤ℤ-antisym (*ℤ-cancel-left h (≤ℤ-of-eq e)) (*ℤ-cancel-left h (≤ℤ-of-eq (sym e)))
+
 -- ---- what is zero
 
 pub both-zero : {a b : ℤ} → pos 0 ≤ℤ a → pos 0 ≤ℤ b → a +ℤ b ≡ pos 0 → (a ≡ pos 0) × (b ≡ pos 0)
@@ -361,10 +364,7 @@ both-zero {a} {b} h k e = (
 )
 
 pub factor-zero : {c z : ℤ} → pos 0 <ℤ c → c *ℤ z ≡ pos 0 → z ≡ pos 0
-factor-zero {c} h e =
-    ≤ℤ-antisym
-    (*ℤ-cancel-left h (≤ℤ-of-eq (e ∙ sym (*ℤ-zero c))))
-    (*ℤ-cancel-left h (≤ℤ-of-eq (*ℤ-zero c ∙ sym e)))
+factor-zero {c} h e = *ℤ-cancel-equal h (e ∙ sym (*ℤ-zero c))
 
 pub square-nonneg : (z : ℤ) → pos 0 ≤ℤ (z *ℤ z)
 square-nonneg (pos n) = pos-nonneg (n * n)

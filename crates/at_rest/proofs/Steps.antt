@@ -21,13 +21,14 @@ use Rattle.apic.specs.Step.{Axis, alongX, alongY, gravity}
 use Rattle.apic.specs.Limits.{ParticleLimits, SetLimits}
 use Rattle.apic.specs.Motion.{Placed, AtRest}
 use Rattle.apic.proofs.Fields.{moved-field}
+use Rattle.apic.proofs.Weighed.{Weighs}
 use Rattle.apic.proofs.Bounds.{spread-whole}
 use Rattle.apic.proofs.Kernel.{Lawful}
 use Rattle.gathering.specs.Gather.{offAxis, moveCheck, moveChecks}
 use Rattle.simulation.specs.Step.{moveBy, steppedBy, stepBy}
 use Rattle.simulation.proofs.Fields.{updatedField, field}
 use Rattle.at_rest.specs.Still.{Gentle}
-use Rattle.at_rest.proofs.Nodes.{Weighed, rest-weighed, rest-gathered}
+use Rattle.at_rest.proofs.Nodes.{rest-weighs, rest-gathered}
 
 -- ---- the checks
 
@@ -70,16 +71,16 @@ module _ {w : ℕ → ℕ → ℤ} {D : ℕ} (law : Lawful w D) (s : Settings) (
   massive : Each (λ p. 0 < p .mass) ps
   massive = each-map (ParticleLimits (s .nx) (s .ny)) _ (λ p h. h .mass-least) ps (limits .each)
 
-  abbrev WeighedOn : Axis → Particle → Type 0
-  WeighedOn a = Weighed w (updatedField w D s a ps) (gravity s a)
+  abbrev WeighsOn : Axis → Particle → Type 0
+  WeighsOn a = Weighs w (s .nx) (s .ny) (updatedField w D s a ps) (λ i j. gravity s a)
 
   rest-move : Each (λ p. moveBy w D s ps p ≡ p) ps
   rest-move =
       all ps on still
-      (rest-weighed w D (spread-whole (law .spread)) s (gentle .plain) ps on massive still alongX)
-      (rest-weighed w D (spread-whole (law .spread)) s (gentle .plain) ps on massive still alongY)
+      (rest-weighs w D (spread-whole (law .spread)) s (gentle .plain) ps on massive still alongX)
+      (rest-weighs w D (spread-whole (law .spread)) s (gentle .plain) ps on massive still alongY)
     where
-      all : (qs : List Particle) → Each (Placed w D (s .nx) (s .ny)) qs → Each AtRest qs → Each (WeighedOn alongX) qs → Each (WeighedOn alongY) qs → Each (λ p. moveBy w D s ps p ≡ p) qs
+      all : (qs : List Particle) → Each (Placed w D (s .nx) (s .ny)) qs → Each AtRest qs → Each (WeighsOn alongX) qs → Each (WeighsOn alongY) qs → Each (λ p. moveBy w D s ps p ≡ p) qs
       all [] placed rests x y = tt
       all (p ∷ qs) placed rests x y = (
         moved-field rounded w (s .nx) (s .ny) _ _ _ _ (field w D s ps alongX) (field w D s ps alongY) p

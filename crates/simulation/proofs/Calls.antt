@@ -5,6 +5,7 @@
 --                      no step; two parts in a row
 --     ready-step, ready-run
 --                      what the checks at entry let in is ready
+--     ready-after      and so is what a completed step leads to
 --     step-works, run-works, call-works, calls-work
 --                      one step; the steps of a run; a call; a list of calls
 --     calls-number     as many steps as the calls say
@@ -13,6 +14,7 @@ use mathlib.Core.Path.{_≡_, refl, sym, ap, _∙_, subst}
 use mathlib.Core.List.{List, [], _∷_, _++_}
 use Prim.Native.Nat.{ℕ, zero, suc, _+_}
 use lib.ListN.{length, replicate, length-append, length-replicate}
+use lib.IntN.{ℤ}
 use Rattle.refusal.specs.Refused.{Answer, result, refused, either}
 use Rattle.spline.specs.Spline.{axisWeight, D}
 use Rattle.particle.specs.declared.Particle.{Particle}
@@ -24,7 +26,7 @@ use Rattle.entry.specs.Entry.{entryAnswer}
 use Rattle.entry.proofs.Entry.{accepted}
 use Rattle.settings.specs.declared.Settings.{Settings}
 use Rattle.apic.specs.Step.{Grids}
-use Rattle.simulation.specs.Step.{After, buffersOf, stepped, stepOf, nodesOf, stepEntry, stepFrom, stepAfter}
+use Rattle.simulation.specs.Step.{After, buffersOf, stepped, stepBy, stepOf, nodesOf, stepEntry, stepFrom, stepAfter}
 use Rattle.simulation.specs.Run.{Completion, runFrom, runBy, runEntry, runAfter}
 use Rattle.simulation.specs.Demand3.{Accepted, Call, step, run, settingsOf, leaves, completes, leavesAll, completesAll, settingsAll, arrives}
 use Rattle.simulation.proofs.Records.{records-particles, records-accepted}
@@ -73,18 +75,22 @@ module _ (s : Settings) (records : List ℕ) where
 
 -- ---- one step
 
+-- a step that is not refused leads to particles that are ready again, whatever its weights
+pub ready-after : (w : ℕ → ℕ → ℤ) (d : ℕ) {s : Settings} {records : List ℕ} {ps qs : List Particle} → Ready s records ps → stepBy w d s ps ≡ result qs → Ready s (recordsOf qs) qs
+ready-after w d {s} {records} {ps} {qs} ready e =
+    let limits : SetLimits (s .nx) (s .ny) qs = subst (SetLimits (s .nx) (s .ny)) (step-result w d s ps e .1) (limits-after w d s ps (completed w d s ps (ready .limits) e)) in
+    record { holds = records-particles limits; limits = limits }
+
 pub step-works : {s : Settings} {records : List ℕ} {ps qs : List Particle} → Ready s records ps → stepOf s ps ≡ result qs → Works (s ∷ []) records (recordsOf qs) × Ready s (recordsOf qs) qs
 unfolding arrives
 step-works {s} {records} {ps} {qs} ready e =
-    let h = completed axisWeight D s ps (ready .limits) e in
-    let same = step-result axisWeight D s ps e .1 in
-    let limits : SetLimits (s .nx) (s .ny) qs = subst (SetLimits (s .nx) (s .ny)) same (limits-after axisWeight D s ps h) in (
+    let after = ready-after axisWeight D ready e in (
       record {
-        chain = subst (Chain (s ∷ [])) (sym (ready .holds)) (h, tt);
-        last = records-particles limits ∙ sym same ∙ ap (stepped s) (sym (ready .holds));
-        accepted = records-accepted limits;
+        chain = subst (Chain (s ∷ [])) (sym (ready .holds)) (completed axisWeight D s ps (ready .limits) e, tt);
+        last = after .holds ∙ sym (step-result axisWeight D s ps e .1) ∙ ap (stepped s) (sym (ready .holds));
+        accepted = records-accepted (after .limits);
       },
-      record { holds = records-particles limits; limits = limits },
+      after,
     )
 
 -- ---- the steps of a run

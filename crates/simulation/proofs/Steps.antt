@@ -2,6 +2,7 @@
 --     Completed           a step from ps that is not refused, ps breaking no limit
 --     step-result         a step that is not refused passed its checks and leads to `stepped`
 --     completed           so it is completed
+--     all-passed          each particle passed
 --     limits-after        the particles after it break no limit
 --     kept-labels, kept-identifiers, kept-masses, kept-marks, kept-mass
 --                         identifiers, masses and marks are kept
@@ -53,7 +54,7 @@ completed w D s ps limits e =
     let h = step-result w D s ps e in
     record { limits = limits; checked = h .0; unrefused = e ∙ ap result (sym (h .1)) }
 
-all-passed : (nx ny : ℕ) (move : Particle → Particle) (k : ℕ) (ps : List Particle) → moveChecks nx ny move k ps (result (tt {0})) ≡ result tt → Each (λ p. Passed nx ny p (move p)) ps
+pub all-passed : (nx ny : ℕ) (move : Particle → Particle) (k : ℕ) (ps : List Particle) → moveChecks nx ny move k ps (result (tt {0})) ≡ result tt → Each (λ p. Passed nx ny p (move p)) ps
 unfolding moveChecks
 all-passed nx ny move k [] e = tt
 all-passed nx ny move k (p ∷ ps) e =
