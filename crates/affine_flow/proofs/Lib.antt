@@ -1,0 +1,5 @@
+pub mod Pairs
+pub mod Nodes
+pub mod Steps
+pub mod Flow
+pub mod Worked
