@@ -33,6 +33,8 @@
 //! | step, run | [`step`], [`run`] |
 //! | read a file, write its header | [`read_file`], [`write_header`] |
 //!
+//! [`affine_flow`] says whether a bath file is a flow that a step gives back exactly.
+//!
 //! `include/gondwize.h` has a table of the stack that each call needs, by the number of its particles.
 //! Where a thread has less, the process ends, as with any function that overflows its stack.
 
@@ -41,12 +43,14 @@
 
 #[allow(unsafe_code)]
 pub mod ffi;
+mod flow;
 #[allow(unsafe_code)]
 pub mod library;
 mod refusal;
 
 use library::PROVED;
 
+pub use flow::{affine_flow, Flow, NoFlow};
 pub use refusal::{Limit, Refusal};
 
 /// Length of a particle record in bytes.

@@ -40,6 +40,8 @@ pub fn samples() -> Vec<Sample> {
         drag(),
         spinning(),
         still(),
+        turn(),
+        drift(),
     ]
 }
 
@@ -278,5 +280,43 @@ fn still() -> Sample {
     Sample {
         name: "still",
         file: marked_file(settings, 5_000, &particles),
+    }
+}
+
+/// A disc that turns as a whole, each particle by exactly 1/16 of its distance: a step gives every velocity and
+/// every B back.
+fn turn() -> Sample {
+    const TURN: i128 = 64;
+    let mut generator = Generator::new(31);
+    let particles = disc(&mut generator, 20, 120)
+        .into_iter()
+        .enumerate()
+        .map(|(k, (i, j))| {
+            let apart = D / TURN;
+            let (x, y) = (600 + apart * i, 470 + apart * j);
+            Particle::at_rest(500 + 9 * k as u16, generator.between(1, 40), x, y)
+                .moving(-j, i)
+                .with_b([0, -TURN, TURN, 0])
+        });
+    Sample {
+        name: "turn",
+        file: marked_file(weightless(20, 16), 1, &particles.collect::<Vec<_>>()),
+    }
+}
+
+/// Drifts as a whole: a run gives every velocity back, and each particle moves by its velocity at every
+/// step.
+fn drift() -> Sample {
+    let mut generator = Generator::new(37);
+    let particles = disc(&mut generator, 250, 150)
+        .into_iter()
+        .enumerate()
+        .map(|(k, (dx, dy))| {
+            let mass = generator.between(1, 900);
+            Particle::at_rest(30 + 11 * k as u16, mass, 420 + dx, 1080 + dy).moving(5, -3)
+        });
+    Sample {
+        name: "drift",
+        file: marked_file(weightless(30, 24), 200, &particles.collect::<Vec<_>>()),
     }
 }

@@ -205,6 +205,41 @@ fn still_rests_under_half_a_unit() {
     assert!(mean(&after, |p| p.y) < mean(&before, |p| p.y));
 }
 
+/// The particles, each moved by so many times its velocity.
+fn carried(particles: &[Particle], times: i128) -> Vec<Particle> {
+    let carried = particles.iter().map(|&p| Particle {
+        x: p.x + times * p.vx,
+        y: p.y + times * p.vy,
+        ..p
+    });
+    carried.collect()
+}
+
+#[test]
+fn turn_comes_back() {
+    let (settings, before, after, answer) = run_sample("turn");
+    assert_ne!(settings.size.nx, settings.size.ny);
+    assert_eq!((answer.completed, answer.refusal), (1, None));
+    assert_eq!((before.len(), moving(&before)), (120, 120));
+    for p in &before {
+        assert_eq!((16 * p.vx, 16 * p.vy), (470 - p.y, p.x - 600));
+        assert_eq!(p.b(), [0, -64, 64, 0]);
+    }
+    assert_eq!(after, carried(&before, 1));
+}
+
+#[test]
+fn drift_goes_on() {
+    let (settings, before, after, answer) = run_sample("drift");
+    assert_ne!(settings.size.nx, settings.size.ny);
+    assert_eq!((answer.completed, answer.refusal), (200, None));
+    assert_eq!(before.len(), 150);
+    for p in &before {
+        assert_eq!((p.vx, p.vy, p.b()), (5, -3, [0; 4]));
+    }
+    assert_eq!(after, carried(&before, 200));
+}
+
 #[test]
 fn small_ones_print_this() {
     let printed = "done 1 refusal 0 at 0\n\

@@ -1,0 +1,362 @@
+//! Affine flows through the library: a step gives every particle its v and B back and moves it by its
+//! v, a run of a drift goes on so, and `affine_flow` tells such files from others.
+
+use std::collections::BTreeSet;
+use std::path::Path;
+
+use compare::{count, seed, stream};
+use engine::{affine_flow, run, step, Flow, GridBuffers, Limit, NoFlow, Refusal};
+use reference::generator::Generator;
+use reference::limits::MAX_VELOCITY;
+use reference::particle_set::pack_records;
+use reference::{Edge, Header, Particle, Settings, Size};
+
+/// Particles of a flow, with its A and B.
+struct Bath {
+    size: Size,
+    a: [i128; 2],
+    b: [i128; 4],
+    particles: Vec<Particle>,
+}
+
+impl Bath {
+    /// The settings of which the theorem tells.
+    fn settings(&self) -> Settings {
+        Settings::new(self.size, 0, 0)
+    }
+
+    fn flow(&self) -> Flow {
+        let [ax, ay] = self.a.map(|a| a as i64);
+        let [bxx, bxy, byx, byy] = self.b.map(|b| b as i64);
+        Flow {
+            ax,
+            ay,
+            bxx,
+            bxy,
+            byx,
+            byy,
+        }
+    }
+
+    /// The record of the first particle that a step moves off the grid.
+    fn first_off(&self, particles: &[Particle]) -> Option<usize> {
+        let off = |p: &Particle| !self.size.holds(p.x + p.vx, p.y + p.vy);
+        particles.iter().position(off)
+    }
+}
+
+/// A file of particles with these settings.
+fn file(settings: Settings, steps: i128, particles: &[Particle]) -> Vec<u8> {
+    let header = Header {
+        settings,
+        count: particles.len() as i128,
+        steps,
+    };
+    let mut file = header.pack(0).to_vec();
+    file.extend(pack_records(particles));
+    file
+}
+
+/// B·d on each axis.
+fn times([bxx, bxy, byx, byy]: [i128; 4], (dx, dy): (i128, i128)) -> [i128; 2] {
+    [bxx * dx + bxy * dy, byx * dx + byy * dy]
+}
+
+/// The entries of B that have this shape: none, a turn, a stretch, shear on either axis, or any.
+fn shape(kind: i128, [xx, xy, yx, yy]: [i128; 4]) -> [i128; 4] {
+    match kind {
+        0 => [0; 4],
+        1 => [0, xy, -xy, 0],
+        2 => [xx, 0, 0, yy],
+        3 => [0, xy, 0, 0],
+        4 => [0, 0, yx, 0],
+        _ => [xx, xy, yx, yy],
+    }
+}
+
+/// A flow of this kind on an accepted size. The entries of B are multiples of a power of 2, and most places are so
+/// far apart that B·d is a multiple of 1024; others are where it happens to be.
+fn bath(numbers: &mut Generator, kind: i128) -> Bath {
+    let size = numbers.size();
+    let power = numbers.between(0, 10);
+    let apart = 1024 >> power;
+    let steepest = numbers.one_of(&[1, 3, 2047]).min(2047 >> power);
+    let entries = std::array::from_fn(|_| numbers.between(-steepest, steepest) << power);
+    let b = shape(kind, entries);
+
+    let ends = |nodes: i128| (32, 64 * (nodes - 1) - 33);
+    let ((x0, x1), (y0, y1)) = (ends(size.nx), ends(size.ny));
+    let fastest = numbers.one_of(&[0, 4, 20, MAX_VELOCITY]);
+    let (place, v, a) = loop {
+        let place = (numbers.between(x0, x1), numbers.between(y0, y1));
+        let v: [i128; 2] = std::array::from_fn(|_| numbers.between(-fastest, fastest));
+        let [bx, by] = times(b, place);
+        let four_a = [1024 * v[0] - bx, 1024 * v[1] - by];
+        if four_a.iter().all(|four_a| four_a % 4 == 0) {
+            break (place, v, four_a.map(|four_a| four_a / 4));
+        }
+    };
+
+    let wanted = numbers.between(1, 40);
+    let mut identifier = numbers.between(0, 500);
+    let mut particles = Vec::new();
+    for _ in 0..20 * wanted {
+        if particles.len() as i128 == wanted {
+            break;
+        }
+        let (x, y) = if particles.is_empty() {
+            place
+        } else if numbers.once_in(3) {
+            (numbers.between(x0, x1), numbers.between(y0, y1))
+        } else {
+            let mut near = |middle: i128| middle + apart * numbers.between(-6, 6);
+            (near(place.0), near(place.1))
+        };
+        let change = times(b, (x - place.0, y - place.1));
+        let velocity = [
+            v[0] + change[0].div_euclid(1024),
+            v[1] + change[1].div_euclid(1024),
+        ];
+        let whole = change.iter().all(|change| change % 1024 == 0);
+        let slow = velocity.iter().all(|v| v.abs() <= MAX_VELOCITY);
+        if whole && slow && size.holds(x, y) {
+            let mass = numbers.between(1, 1023);
+            let particle = Particle::at_rest(identifier as u16, mass, x, y)
+                .moving(velocity[0], velocity[1])
+                .with_b(b)
+                .with_marks(numbers.marks());
+            particles.push(particle);
+            identifier += numbers.between(1, 1500);
+        }
+    }
+    Bath {
+        size,
+        a,
+        b,
+        particles,
+    }
+}
+
+/// The particles, each moved so many times by its velocity.
+fn moved(particles: &[Particle], times: i128) -> Vec<Particle> {
+    let mut moved = particles.to_vec();
+    for p in &mut moved {
+        (p.x, p.y) = (p.x + times * p.vx, p.y + times * p.vy);
+    }
+    moved
+}
+
+/// The engine's settings.
+fn open(size: Size) -> engine::Settings {
+    engine::Settings {
+        size: engine::Size {
+            nx: size.nx as usize,
+            ny: size.ny as usize,
+        },
+        gx: 0,
+        gy: 0,
+        edge: engine::Edge::Open,
+        drag: 0,
+    }
+}
+
+/// A call with grid buffers that hold something.
+fn with_grid<T>(size: Size, call: impl FnOnce(&mut GridBuffers) -> T) -> T {
+    let nodes = size.nodes();
+    let (mut mass, mut x, mut y) = (vec![5; nodes], vec![-7; nodes], vec![9; nodes]);
+    call(&mut GridBuffers {
+        mass: &mut mass,
+        x: &mut x,
+        y: &mut y,
+    })
+}
+
+fn off(place: usize) -> Refusal {
+    Refusal {
+        limit: Limit::NewPosition,
+        place,
+    }
+}
+
+/// A step of the bath: all records moved by their v and nothing else, or the first that would leave the
+/// grid named, and none moved. Whether it was done.
+fn stepped(name: &str, bath: &Bath) -> bool {
+    let mut records = pack_records(&bath.particles);
+    let before = records.clone();
+    let answer = with_grid(bath.size, |grid| step(open(bath.size), &mut records, grid));
+    match bath.first_off(&bath.particles) {
+        None => {
+            assert_eq!(answer, Ok(()), "{name}");
+            assert_eq!(records, pack_records(&moved(&bath.particles, 1)), "{name}");
+            true
+        }
+        Some(place) => {
+            assert_eq!(answer, Err(off(place)), "{name}");
+            assert_eq!(records, before, "{name}");
+            false
+        }
+    }
+}
+
+#[test]
+fn a_step_gives_a_flow_back() {
+    let (mut done, mut refused, mut wide) = ([0; 6], 0, 0);
+    let flows = count().div_ceil(4);
+    for number in 0..flows {
+        let name = format!("flow, COMPARE_SEED {}, input {number}", seed());
+        let numbers = &mut stream("flow", number);
+        let kind = numbers.between(0, 5);
+        let bath = bath(numbers, kind);
+        let found = affine_flow(&file(bath.settings(), 1, &bath.particles));
+        assert_eq!(found, Ok(bath.flow()), "{name}");
+        if stepped(&name, &bath) {
+            done[kind as usize] += 1;
+            let places: BTreeSet<_> = bath.particles.iter().map(|p| (p.x, p.y)).collect();
+            wide += u64::from(bath.b != [0; 4] && places.len() >= 3);
+        } else {
+            refused += 1;
+        }
+    }
+    let enough = done.iter().all(|&done| done > 0) && refused > 0 && wide > flows / 4;
+    assert!(
+        enough,
+        "{done:?} done by kind, {refused} refused, {wide} of three places"
+    );
+}
+
+#[test]
+fn a_run_gives_a_drift_back() {
+    let (mut done, mut stopped) = (0, 0);
+    for number in 0..count().div_ceil(10) {
+        let name = format!("drift, COMPARE_SEED {}, input {number}", seed());
+        let numbers = &mut stream("drift", number);
+        let bath = bath(numbers, 0);
+        let most = numbers.one_of(&[3, 40, 10_000]);
+        let steps = numbers.between(0, most);
+        let leaving = (0..steps).find_map(|k| {
+            let place = bath.first_off(&moved(&bath.particles, k))?;
+            Some((k, place))
+        });
+        let mut records = pack_records(&bath.particles);
+        let answer = with_grid(bath.size, |grid| {
+            run(open(bath.size), steps as usize, &mut records, grid)
+        });
+        let completed = leaving.map_or(steps, |(k, _)| k);
+        let refusal = leaving.map(|(_, place)| off(place));
+        assert_eq!(
+            (answer.completed as i128, answer.refusal),
+            (completed, refusal),
+            "{name}"
+        );
+        assert_eq!(
+            records,
+            pack_records(&moved(&bath.particles, completed)),
+            "{name}"
+        );
+        done += usize::from(leaving.is_none());
+        stopped += usize::from(leaving.is_some());
+    }
+    assert!(done > 0 && stopped > 0, "{done} done, {stopped} stopped");
+}
+
+/// One number of one particle but the first is another, or the settings are.
+#[test]
+fn what_is_no_flow() {
+    let mut changed = 0;
+    for number in 0..count().div_ceil(4) {
+        let name = format!("no flow, COMPARE_SEED {}, input {number}", seed());
+        let numbers = &mut stream("no flow", number);
+        let kind = numbers.between(0, 5);
+        let mut bath = bath(numbers, kind);
+        let settings = bath.settings();
+        let others = [
+            (Settings { gx: 1, ..settings }, NoFlow::Gravity),
+            (Settings { gy: -1, ..settings }, NoFlow::Gravity),
+            (settings.with_edge(Edge::slip(1)), NoFlow::Edge),
+            (settings.with_edge(Edge::sticky(3)), NoFlow::Edge),
+            (settings.with_drag(1), NoFlow::Drag),
+        ];
+        for (settings, why) in others {
+            let found = affine_flow(&file(settings, 1, &bath.particles));
+            assert_eq!(found, Err(why), "{name}");
+        }
+        let mut cut = file(settings, 1, &bath.particles);
+        cut.pop();
+        let refusal = engine::read_file(&cut).expect_err("a file of another length");
+        assert_eq!(affine_flow(&cut), Err(NoFlow::Refused(refusal)), "{name}");
+
+        if bath.particles.len() < 2 {
+            continue;
+        }
+        let k = numbers.between(1, bath.particles.len() as i128 - 1) as usize;
+        let p = &mut bath.particles[k];
+        let by = |number: i128| if number > 0 { -1 } else { 1 };
+        let why = match numbers.between(0, 5) {
+            0 => {
+                p.vx += by(p.vx);
+                NoFlow::Velocity(k)
+            }
+            1 => {
+                p.vy += by(p.vy);
+                NoFlow::Velocity(k)
+            }
+            2 => {
+                p.bxx += by(p.bxx);
+                NoFlow::OtherB(k)
+            }
+            3 => {
+                p.bxy += by(p.bxy);
+                NoFlow::OtherB(k)
+            }
+            4 => {
+                p.byx += by(p.byx);
+                NoFlow::OtherB(k)
+            }
+            _ => {
+                p.byy += by(p.byy);
+                NoFlow::OtherB(k)
+            }
+        };
+        let found = affine_flow(&file(settings, 1, &bath.particles));
+        assert_eq!(found, Err(why), "{name}");
+        changed += 1;
+    }
+    assert!(changed > 0, "no particle changed");
+}
+
+/// A file of the folder of samples.
+fn sample(name: &str) -> Vec<u8> {
+    let folder = Path::new(env!("CARGO_MANIFEST_DIR")).join("../../examples");
+    std::fs::read(folder.join(name)).expect("a sample")
+}
+
+/// The sample files: which of them are flows.
+#[test]
+fn samples() {
+    let turn = Flow {
+        ax: 7520,
+        ay: -9600,
+        bxy: -64,
+        byx: 64,
+        ..Flow::default()
+    };
+    assert_eq!(affine_flow(&sample("turn.bath")), Ok(turn));
+    let drift = Flow {
+        ax: 5 * 256,
+        ay: -3 * 256,
+        ..Flow::default()
+    };
+    assert_eq!(affine_flow(&sample("drift.bath")), Ok(drift));
+    assert_eq!(
+        affine_flow(&sample("spinning.bath")),
+        Err(NoFlow::OtherB(1))
+    );
+    assert_eq!(
+        affine_flow(&sample("leaving.bath")),
+        Err(NoFlow::Velocity(1))
+    );
+    assert_eq!(affine_flow(&sample("still.bath")), Err(NoFlow::Gravity));
+    let refused = affine_flow(&sample("refused.bath")).expect_err("a refused file");
+    let sentence = "refused 8 at 2: an identifier is not above the one before";
+    assert_eq!(refused.to_string(), sentence);
+}
