@@ -22,6 +22,7 @@ use Rattle.particles.specs.Set.{recordsOf, particlesIn}
 use Rattle.settings.specs.declared.Settings.{Settings}
 use Rattle.apic.specs.Step.{Axis, coordinate, velocity, Grids}
 use Rattle.apic.specs.Limits.{ParticleLimits, SetLimits}
+use Rattle.apic.proofs.Bounds.{spread-whole}
 use Rattle.apic.proofs.Kernel.{Lawful}
 use Rattle.apic.proofs.Spline.{spline-lawful}
 use Rattle.simulation.specs.Step.{After, stepBy, stepOf, nodesBy, stepEntry, stepFrom, stepAfter}
@@ -34,15 +35,15 @@ use Rattle.affine_flow.proofs.Steps.{flow-comes-back, entries-nodes, sp
 -- ---- a step
 
 module _ {w : ℕ → ℕ → ℤ} {d : ℕ} (law : Lawful w d) (s : Settings) (unforced : Unforced s) (f : Flow) (nodes : WholeAtNodes d f (s .nx) (s .ny)) where
-  limits-moved : {ps qs : List Particle} → SetLimits (s .nx) (s .ny) ps → Each (Follows d f) ps → stepBy w d s ps ≡ result qs → EachPair (MovedBy 1) ps qs
+  limits-moved : {ps qs : List Particle} → SetLimits (s .nx) (s .ny) ps → Each (Follows d (d / 256) f) ps → stepBy w d s ps ≡ result qs → EachPair (MovedBy 1) ps qs
   limits-moved {ps} {qs} limits follows e =
-      let least = law .spread .least in
-      flow-comes-back w d (omega arith) (law .spread .whole) s unforced f nodes ps
+      let whole = spread-whole (law .spread) in
+      flow-comes-back w d (d / 256) (whole .times) (whole .some) s unforced f nodes ps
       (law .placed (s .nx) (s .ny) ps (limits .each))
       (each-map (ParticleLimits (s .nx) (s .ny)) _ (λ p h. h .mass-least) ps (limits .each))
       follows qs e
 
-module _ (s : Settings) (unforced : Unforced s) (f : Flow) (records : List ℕ) (follows : Each (Follows D f) (particlesIn records)) (grids : Grids) where
+module _ (s : Settings) (unforced : Unforced s) (f : Flow) (records : List ℕ) (follows : Each (Follows D 4 f) (particlesIn records)) (grids : Grids) where
   abbrev Kept : List ℕ → Type 0
   Kept after = EachPair (MovedBy 1) (particlesIn records) (particlesIn after)
 
@@ -55,7 +56,7 @@ module _ (s : Settings) (unforced : Unforced s) (f : Flow) (records : List ℕ) 
           rw e (λ is-done.
           subst₂ (EachPair (MovedBy 1)) (sym (ready .holds)) (sym (ready-after axisWeight D ready e .holds))
           (limits-moved spline-lawful s unforced f (entries-nodes D f (s .nx) (s .ny) (spline-divides f)) (ready .limits)
-          (subst (Each (Follows D f)) (ready .holds) follows) e))
+          (subst (Each (Follows D 4 f)) (ready .holds) follows) e))
       go (refused n k) e = rw e (λ is-done. not-result is-done)
 
   after-step : stepAfter s records grids .answer ≡ done → Kept (stepAfter s records grids .records)
@@ -103,7 +104,7 @@ then-moved n p q r h k =
     further : (x y z v : ℤ) → y ≡ x +ℤ pos 1 *ℤ v → z ≡ y +ℤ pos n *ℤ v → z ≡ x +ℤ pos (suc n) *ℤ v
     further x y z v e e′ = linear (x ∷ y ∷ z ∷ v ∷ []) (e & e′) (search reading depth 30) (omega arith)
 
-still-drifts : (d : ℕ) (A : Axis → ℤ) (n : ℕ) (p q : Particle) → Follows d (drift A) p → MovedBy n p q → Follows d (drift A) q
+still-drifts : (d : ℕ) (A : Axis → ℤ) (n : ℕ) (p q : Particle) → Follows d (d / 256) (drift A) p → MovedBy n p q → Follows d (d / 256) (drift A) q
 still-drifts d A n p q h k =
     record {
       its-affine = λ a b. k .same-affine a b ∙ h .its-affine a b;
@@ -124,29 +125,29 @@ module _ {w : ℕ → ℕ → ℤ} {d : ℕ} (law : Lawful w d) (s : Settings) (
   stays : {records : List ℕ} {ps : List Particle} → Ready s records ps → EachPair (MovedBy 0) ps (particlesIn records)
   stays {records} {ps} ready = subst (EachPair (MovedBy 0) ps) (sym (ready .holds)) (pair-same (MovedBy 0) unmoved ps)
 
-  pub run-drifts : (n : ℕ) (records : List ℕ) (ps : List Particle) (grids : Grids) → Ready s records ps → Each (Follows d (drift A)) ps → Ends n ps (runBy w d s n records ps grids)
+  pub run-drifts : (n : ℕ) (records : List ℕ) (ps : List Particle) (grids : Grids) → Ready s records ps → Each (Follows d (d / 256) (drift A)) ps → Ends n ps (runBy w d s n records ps grids)
   unfolding runBy
   run-drifts zero records ps grids ready follows = record { unstopped = λ is-done. refl; each = stays ready }
   run-drifts (suc n) records ps grids ready follows = go (λ qs. run-drifts n (recordsOf qs) qs (nodesBy w d s ps)) (stepBy w d s ps) refl
     where
-      go : ((qs : List Particle) → Ready s (recordsOf qs) qs → Each (Follows d (drift A)) qs → Ends n qs (runBy w d s n (recordsOf qs) qs (nodesBy w d s ps))) → (a : Answer (List Particle)) → stepBy w d s ps ≡ a → Ends (suc n) ps (runBy w d s (suc n) records ps grids)
+      go : ((qs : List Particle) → Ready s (recordsOf qs) qs → Each (Follows d (d / 256) (drift A)) qs → Ends n qs (runBy w d s n (recordsOf qs) qs (nodesBy w d s ps))) → (a : Answer (List Particle)) → stepBy w d s ps ≡ a → Ends (suc n) ps (runBy w d s (suc n) records ps grids)
       go further (result qs) e =
           let first = limits-moved law s unforced (drift A) (entries-nodes d (drift A) (s .nx) (s .ny) (drift-divides d A)) (ready .limits) follows e in
-          let rest = further qs (ready-after w d ready e) (pair-each (Follows d (drift A)) (MovedBy 1) (still-drifts d A 1) ps qs follows first) in
+          let rest = further qs (ready-after w d ready e) (pair-each (Follows d (d / 256) (drift A)) (MovedBy 1) (still-drifts d A 1) ps qs follows first) in
           rw e (record {
             unstopped = λ is-done. ap suc (rest .unstopped is-done);
             each = pair-then (MovedBy 1) (MovedBy _) (MovedBy _) (then-moved _) ps qs _ first (rest .each);
           })
       go further (refused k p) e = rw e (record { unstopped = λ is-done. not-result is-done; each = stays ready })
 
-after-run : (s : Settings) → Unforced s → (A : Axis → ℤ) (records : List ℕ) → Each (Follows D (drift A)) (particlesIn records) → (steps : ℕ) (grids : Grids) → Ends steps (particlesIn records) (runAfter s steps records grids)
+after-run : (s : Settings) → Unforced s → (A : Axis → ℤ) (records : List ℕ) → Each (Follows D 4 (drift A)) (particlesIn records) → (steps : ℕ) (grids : Grids) → Ends steps (particlesIn records) (runAfter s steps records grids)
 unfolding runAfter
 after-run s unforced A records follows steps grids = go (runEntry s steps records grids) refl
   where
     go : (a : Answer (List Particle)) → runEntry s steps records grids ≡ a → Ends steps (particlesIn records) (runAfter s steps records grids)
     go (result ps) e =
         let ready = ready-run s records steps grids e in
-        let ends = run-drifts spline-lawful s unforced A steps records ps grids ready (subst (Each (Follows D (drift A))) (ready .holds) follows) in
+        let ends = run-drifts spline-lawful s unforced A steps records ps grids ready (subst (Each (Follows D 4 (drift A))) (ready .holds) follows) in
         rw e (subst (λ qs. Ends steps qs (runFrom s steps records ps grids)) (sym (ready .holds)) ends)
     go (refused n k) e = rw e (record { unstopped = λ is-done. not-result is-done; each = pair-same (MovedBy 0) unmoved (particlesIn records) })
 

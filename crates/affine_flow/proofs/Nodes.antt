@@ -31,7 +31,7 @@ module _ (D : ℕ) (whole : Whole D) (f : Flow) where
   abbrev nodeFlow : Axis → ℕ → ℕ → ℤ
   nodeFlow a i j = pos (D / 256) *ℤ f .A a +ℤ timesPlace f a (64 * i) (64 * j)
 
-  carried-flow : (a : Axis) (p : Particle) → Follows D f p → (i j : ℕ) → carried D a p i j ≡ nodeFlow a i j
+  carried-flow : (a : Axis) (p : Particle) → Follows D (D / 256) f p → (i j : ℕ) → carried D a p i j ≡ nodeFlow a i j
   carried-flow a p h i j =
       (λ t. h .its-velocity a t +ℤ h .its-affine a alongX t *ℤ apart alongX p i j +ℤ h .its-affine a alongY t *ℤ apart alongY p i j)
       ∙ there (pos (D / 256) *ℤ f .A a) (f .B a alongX) (f .B a alongY) (pos (p .x)) (pos (p .y)) (pos (64 * i)) (pos (64 * j))
@@ -39,10 +39,10 @@ module _ (D : ℕ) (whole : Whole D) (f : Flow) where
       there : (c bx by x y X Y : ℤ) → c +ℤ (bx *ℤ x +ℤ by *ℤ y) +ℤ bx *ℤ (X -ℤ x) +ℤ by *ℤ (Y -ℤ y) ≡ c +ℤ (bx *ℤ X +ℤ by *ℤ Y)
       there c bx by x y X Y = ring (c ∷ bx ∷ by ∷ x ∷ y ∷ X ∷ Y ∷ []) (search quote depth 30) (search quote depth 30) tt
 
-  flow-momentum : (w : ℕ → ℕ → ℤ) (a : Axis) (ps : List Particle) → Each (Follows D f) ps → (i j : ℕ) → nodeMomentum w D a ps i j ≡ nodeMass w ps i j *ℤ nodeFlow a i j
+  flow-momentum : (w : ℕ → ℕ → ℤ) (a : Axis) (ps : List Particle) → Each (Follows D (D / 256) f) ps → (i j : ℕ) → nodeMomentum w D a ps i j ≡ nodeMass w ps i j *ℤ nodeFlow a i j
   unfolding nodeMass nodeMomentum
   flow-momentum w a ps follows i j =
-      sum-cong-each (Follows D f) _ _ (λ p h. ap (λ c. pos (p .mass) *ℤ weight w p i j *ℤ c) (carried-flow a p h i j)) ps follows
+      sum-cong-each (Follows D (D / 256) f) _ _ (λ p h. ap (λ c. pos (p .mass) *ℤ weight w p i j *ℤ c) (carried-flow a p h i j)) ps follows
       ∙ sum-scale-right (nodeFlow a i j) (λ p. pos (p .mass) *ℤ weight w p i j) ps
 
   -- ---- update
@@ -68,7 +68,7 @@ module _ (D : ℕ) (whole : Whole D) (f : Flow) where
     divided i j in-x in-y =
         *ℤ-cancel-equal (pos-positive {n = 256} (lit< tt)) (sym (node-flow i j in-x in-y) ∙ 256-times (nodes .u a i j))
 
-    pub flow-velocity : (w : ℕ → ℕ → ℤ) (ps : List Particle) → Each (Placed w D nx ny) ps → Each (Follows D f) ps → (i j : ℕ) → i < nx → j < ny → (M : ℕ) → natAbs (nodeMass w ps i j) ≡ suc M → nodeVelocity rounded D (pos 0) (suc M) (nodeMomentum w D a ps i j) ≡ nodes .u a i j
+    pub flow-velocity : (w : ℕ → ℕ → ℤ) (ps : List Particle) → Each (Placed w D nx ny) ps → Each (Follows D (D / 256) f) ps → (i j : ℕ) → i < nx → j < ny → (M : ℕ) → natAbs (nodeMass w ps i j) ≡ suc M → nodeVelocity rounded D (pos 0) (suc M) (nodeMomentum w D a ps i j) ≡ nodes .u a i j
     unfolding nodeVelocity
     flow-velocity w ps on follows i j in-x in-y M e =
         +ℤ-idr (rounded (nodeMomentum w D a ps i j) (D / 256 * suc M))
@@ -84,7 +84,7 @@ module _ (D : ℕ) (whole : Whole D) (f : Flow) where
 
     -- ---- gather
 
-    module _ {w : ℕ → ℕ → ℤ} {p : Particle} (placed : Placed w D nx ny p) (follows : Follows D f p) {v : ℕ → ℕ → ℤ} (h : Weighs w nx ny v (nodes .u a) p) where
+    module _ {w : ℕ → ℕ → ℤ} {p : Particle} (placed : Placed w D nx ny p) (follows : Follows D (D / 256) f p) {v : ℕ → ℕ → ℤ} (h : Weighs w nx ny v (nodes .u a) p) where
       flow-line : LinearAt D nx ny (nodes .u a) (pos 256 *ℤ (pos D *ℤ velocity a p)) (λ b. pos 256 *ℤ affine a b p) p
       flow-line i j in-x in-y =
           node-flow i j in-x in-y

@@ -7,7 +7,7 @@
 -- Assumes nothing.
 use mathlib.Core.Path.{_≡_, refl, ap, _∙_, subst}
 use mathlib.Core.List.{List, [], _∷_}
-use Prim.Native.Nat.{ℕ, _<_, _≤_}
+use Prim.Native.Nat.{ℕ, _/_, _<_}
 use native.Mathlib.Omega.{arith}
 use lib.IntN.{ℤ, pos, natAbs, _+ℤ_, _-ℤ_, _*ℤ_, *ℤ-zero}
 use lib.Signed.{pos-natAbs}
@@ -37,7 +37,7 @@ module _ (w : ℕ → ℕ → ℤ) (D : ℕ) (whole : Whole D) (s : Settings) (u
   abbrev move : Particle → Particle
   move = moveBy w D s ps
 
-  flow-weighs : Each (Placed w D (s .nx) (s .ny)) ps → Each (λ p. 0 < p .mass) ps → Each (Follows D f) ps → (a : Axis) → Each (Weighs w (s .nx) (s .ny) (updated a) (nodes .u a)) ps
+  flow-weighs : Each (Placed w D (s .nx) (s .ny)) ps → Each (λ p. 0 < p .mass) ps → Each (Follows D (D / 256) f) ps → (a : Axis) → Each (Weighs w (s .nx) (s .ny) (updated a) (nodes .u a)) ps
   flow-weighs on massive follows a =
       massive-weighs w D (s .nx) (s .ny) ps on massive (updated a) (nodes .u a) (λ i j in-x in-y M e.
       field w D s ps a i j in-x in-y
@@ -45,7 +45,7 @@ module _ (w : ℕ → ℕ → ℤ) (D : ℕ) (whole : Whole D) (s : Settings) (u
       ∙ (λ t. nodeVelocity rounded D (unforced .no-gravity a t) (e t) (nodeMomentum w D a ps i j))
       ∙ flow-velocity D whole f nodes a w ps on follows i j in-x in-y M e)
 
-  module _ (p : Particle) (placed : Placed w D (s .nx) (s .ny) p) (follows : Follows D f p) (on-x : Weighs w (s .nx) (s .ny) (updated alongX) (nodes .u alongX) p) (on-y : Weighs w (s .nx) (s .ny) (updated alongY) (nodes .u alongY) p) where
+  module _ (p : Particle) (placed : Placed w D (s .nx) (s .ny) p) (follows : Follows D (D / 256) f p) (on-x : Weighs w (s .nx) (s .ny) (updated alongX) (nodes .u alongX) p) (on-y : Weighs w (s .nx) (s .ny) (updated alongY) (nodes .u alongY) p) where
     velocity-kept : (a : Axis) → velocity a (move p) ≡ velocity a p
     unfolding moved
     velocity-kept alongX = flow-gathered D whole f nodes alongX placed follows on-x
@@ -80,7 +80,7 @@ module _ (w : ℕ → ℕ → ℤ) (D : ℕ) (whole : Whole D) (s : Settings) (u
           new-place = place-moved m;
         }
 
-  each-moved : (qs : List Particle) → Each (Placed w D (s .nx) (s .ny)) qs → Each (Follows D f) qs → Each (Weighs w (s .nx) (s .ny) (updated alongX) (nodes .u alongX)) qs → Each (Weighs w (s .nx) (s .ny) (updated alongY) (nodes .u alongY)) qs → Each (λ p. Passed (s .nx) (s .ny) p (move p)) qs → Each (λ p. MovedBy 1 p (move p)) qs
+  each-moved : (qs : List Particle) → Each (Placed w D (s .nx) (s .ny)) qs → Each (Follows D (D / 256) f) qs → Each (Weighs w (s .nx) (s .ny) (updated alongX) (nodes .u alongX)) qs → Each (Weighs w (s .nx) (s .ny) (updated alongY) (nodes .u alongY)) qs → Each (λ p. Passed (s .nx) (s .ny) p (move p)) qs → Each (λ p. MovedBy 1 p (move p)) qs
   each-moved [] on follows on-x on-y passed = tt
   each-moved (q ∷ qs) on follows on-x on-y passed = (
     flow-moved q (on .0) (follows .0) (on-x .0) (on-y .0) (passed .0),
@@ -89,8 +89,9 @@ module _ (w : ℕ → ℕ → ℤ) (D : ℕ) (whole : Whole D) (s : Settings) (u
 
 pub flow-comes-back : FlowComesBack
 unfolding steppedBy
-flow-comes-back w D some multiple s unforced f nodes ps on massive follows qs e =
+flow-comes-back w D k multiple some s unforced f nodes ps on massive at-k qs e =
     let whole : Whole D = record { some = omega arith; times = omega arith } in
+    let follows : Each (Follows D (D / 256) f) ps = subst (λ k. Each (Follows D k f) ps) (omega arith) at-k in
     let stepped = step-result w D s ps e in
     subst (EachPair (MovedBy 1) ps) (stepped .1)
     (pair-images (MovedBy 1) (moveBy w D s ps) ps
@@ -118,7 +119,7 @@ entries-nodes D f nx ny h =
     together c bx by i j = ring (c ∷ bx ∷ by ∷ i ∷ j ∷ []) (search quote depth 30) (search quote depth 30) tt
 
 -- nodes (1, 0) and (0, 1) against node (0, 0)
-nodes-entries : (D : ℕ) (f : Flow) (nx ny : ℕ) → 2 ≤ nx → 2 ≤ ny → WholeAtNodes D f nx ny → Divides D f
+nodes-entries : (D : ℕ) (f : Flow) (nx ny : ℕ) → 1 < nx → 1 < ny → WholeAtNodes D f nx ny → Divides D f
 nodes-entries D f nx ny wide high h = record { quotient = quotient; is = is }
   where
     quotient : Axis → Axis → ℤ
@@ -145,7 +146,7 @@ nodes-entries D f nx ny wide high h = record { quotient = quotient; is = is }
         ∙ y-alone (pos D *ℤ f .A a) (f .B a alongX) (f .B a alongY)
 
 pub whole-by-entries : WholeByEntries
-whole-by-entries D f nx ny wide high = record { nodes = entries-nodes D f nx ny; entries = nodes-entries D f nx ny wide high }
+whole-by-entries D f nx ny wide high = record { nodes = entries-nodes D f nx ny; entries = nodes-entries D f nx ny (omega arith) (omega arith) }
 
 pub spline-divides : SplineDivides
 spline-divides f =

@@ -19,7 +19,7 @@ use Rattle.entry.specs.Entry.{checkedForces, beginAnswer, entryAnswer}
 use Rattle.simulation.specs.Step.{massesBy, momentaBy, velocitiesBy, steppedBy, stepBy, stepEntry, stepFrom, stepAfter}
 use Rattle.simulation.specs.Run.{runBy, runEntry, runAfter}
 use Rattle.affine_flow.specs.Flow.{Flow, timesPlace, Follows}
-use Rattle.affine_flow.specs.Examples.{turn, stretch, shear, gliding, turned, missing, Examples}
+use Rattle.affine_flow.specs.Examples.{turn, stretch, shear, gliding, missing, Examples}
 
 -- ---- a particle of a flow, entry by entry and axis by axis
 
@@ -29,7 +29,7 @@ SameEntry f p a b = affine a b p ≡ f .B a b
 abbrev SameVelocity : Flow → Particle → Axis → Type 0
 SameVelocity f p a = pos 1024 *ℤ velocity a p ≡ pos 4 *ℤ f .A a +ℤ timesPlace f a (p .x) (p .y)
 
-follows : (f : Flow) {p : Particle} → SameEntry f p alongX alongX → SameEntry f p alongX alongY → SameEntry f p alongY alongX → SameEntry f p alongY alongY → SameVelocity f p alongX → SameVelocity f p alongY → Follows 1024 f p
+follows : (f : Flow) {p : Particle} → SameEntry f p alongX alongX → SameEntry f p alongX alongY → SameEntry f p alongY alongX → SameEntry f p alongY alongY → SameVelocity f p alongX → SameVelocity f p alongY → Follows 1024 4 f p
 follows f {p} xx xy yx yy vx vy = record { its-affine = same; its-velocity = fits }
   where
     same : (a b : Axis) → SameEntry f p a b
@@ -45,7 +45,7 @@ follows f {p} xx xy yx yy vx vy = record { its-affine = same; its-velocity = fit
 -- ---- no flow
 
 -- A cancels: on the x axis, velocities are as far apart as B times the places
-differ : (f : Flow) {p q : Particle} → Follows 1024 f p → Follows 1024 f q → pos 1024 *ℤ (q .vx -ℤ p .vx) ≡ p .bxx *ℤ (pos (q .x) -ℤ pos (p .x)) +ℤ p .bxy *ℤ (pos (q .y) -ℤ pos (p .y))
+differ : (f : Flow) {p q : Particle} → Follows 1024 4 f p → Follows 1024 4 f q → pos 1024 *ℤ (q .vx -ℤ p .vx) ≡ p .bxx *ℤ (pos (q .x) -ℤ pos (p .x)) +ℤ p .bxy *ℤ (pos (q .y) -ℤ pos (p .y))
 differ f {p} {q} h k =
     each (q .vx) (p .vx)
     ∙ (λ t. k .its-velocity alongX t -ℤ h .its-velocity alongX t)
@@ -58,11 +58,8 @@ differ f {p} {q} h k =
     without : (c bx by x y x′ y′ : ℤ) → c +ℤ (bx *ℤ x +ℤ by *ℤ y) -ℤ (c +ℤ (bx *ℤ x′ +ℤ by *ℤ y′)) ≡ bx *ℤ (x -ℤ x′) +ℤ by *ℤ (y -ℤ y′)
     without c bx by x y x′ y′ = ring (c ∷ bx ∷ by ∷ x ∷ y ∷ x′ ∷ y′ ∷ []) (search quote depth 30) (search quote depth 30) tt
 
-not-missing : (f : Flow) → Each (Follows 1024 f) missing → ⊥
-not-missing f h = let e : pos 4096 ≡ pos 3072 = differ f (h .0) (h .1 .0) in linear [] e (search reading depth 30) (omega arith)
-
-not-turned : (f : Flow) → Each (Follows 1024 f) turned → ⊥
-not-turned f h = let e : pos 3072 ≡ pos 2816 = differ f (h .0) (h .1 .0) in linear [] e (search reading depth 30) (omega arith)
+no-flow : (f : Flow) → Each (Follows 1024 4 f) missing → ⊥
+no-flow f h = let e : pos 4096 ≡ pos 3072 = differ f (h .0) (h .1 .0) in linear [] e (search reading depth 30) (omega arith)
 
 -- ---- the steps and runs
 
@@ -77,17 +74,17 @@ examples =
       unforced = record { plain = record { edge-open = refl; no-drag = refl }; no-gravity = calm };
       turn-follows = (follows turn refl refl refl refl refl refl, (follows turn refl refl refl refl refl refl, (follows turn refl refl refl refl refl refl, tt)));
       turn-steps = record { accepted = refl; answer = refl; left = refl };
+      turn-again = record { accepted = refl; answer = refl; left = refl };
       stretch-follows = (follows stretch refl refl refl refl refl refl, (follows stretch refl refl refl refl refl refl, (follows stretch refl refl refl refl refl refl, tt)));
       stretch-steps = record { accepted = refl; answer = refl; left = refl };
       shear-follows = (follows shear refl refl refl refl refl refl, (follows shear refl refl refl refl refl refl, (follows shear refl refl refl refl refl refl, tt)));
       shear-steps = record { accepted = refl; answer = refl; left = refl };
-      turn-once = not-turned;
       drift-follows = (follows gliding refl refl refl refl refl refl, (follows gliding refl refl refl refl refl refl, (follows gliding refl refl refl refl refl refl, tt)));
       drift-answer = refl;
       drift-left = refl;
       stopped-answer = refl;
       stopped-left = refl;
       two-follow = (follows turn refl refl refl refl refl refl, (follows turn refl refl refl refl refl refl, tt));
-      none-fits = not-missing;
+      none-fits = no-flow;
       missing-steps = record { accepted = refl; answer = refl; left = refl };
     }

@@ -1,5 +1,6 @@
 -- Affine flows at work, on 6 by 5 nodes: a turn, a stretch and shear of three particles each, with what a step leaves of their
--- records; a drift, with what two runs leave; and the turn with one velocity larger by one, which does not come back.
+-- records, and of the turn a second one; a drift, with what two runs leave; and the turn with one velocity larger by one, which
+-- does not come back.
 -- Assumes nothing.
 use mathlib.Core.Path.{_≡_}
 use mathlib.Core.List.{List, [], _∷_}
@@ -45,9 +46,9 @@ gliding = drift (both (pos 1792) (negℤ (pos 1024)))
 
 -- ---- particles
 
--- with this B: identifier, mass, x, y, vx, vy, marks
-abbrev particle : (Axis → Axis → ℤ) → ℕ → ℕ → ℕ → ℕ → ℤ → ℤ → ℕ → Particle
-particle B identifier mass x y vx vy marks =
+-- three of them, with this B, place and velocity
+abbrev particle : ℕ → ℕ → ℕ → (Axis → Axis → ℤ) → ℕ → ℕ → ℤ → ℤ → Particle
+particle identifier mass marks B x y vx vy =
     record {
       identifier = identifier;
       mass = mass;
@@ -62,69 +63,88 @@ particle B identifier mass x y vx vy marks =
       marks = marks;
     }
 
+abbrev first : (Axis → Axis → ℤ) → ℕ → ℕ → ℤ → ℤ → Particle
+first = particle 3 5 40
+
+abbrev second : (Axis → Axis → ℤ) → ℕ → ℕ → ℤ → ℤ → Particle
+second = particle 8 2 0
+
+abbrev third : (Axis → Axis → ℤ) → ℕ → ℕ → ℤ → ℤ → Particle
+third = particle 9 11 255
+
+-- the turn's, before and after a step, and after another
 abbrev pub turning : List Particle
 turning =
-    particle (turn .B) 3 5 130 100 (pos 0) (pos 2) 40
-    ∷ particle (turn .B) 8 2 146 124 (pos 3) (pos 0) 0
-    ∷ particle (turn .B) 9 11 202 84 (negℤ (pos 2)) (negℤ (pos 7)) 255
+    first (turn .B) 130 100 (pos 0) (pos 2)
+    ∷ second (turn .B) 146 124 (pos 3) (pos 0)
+    ∷ third (turn .B) 202 84 (negℤ (pos 2)) (negℤ (pos 7))
     ∷ []
 
 abbrev pub turned : List Particle
 turned =
-    particle (turn .B) 3 5 130 102 (pos 0) (pos 2) 40
-    ∷ particle (turn .B) 8 2 149 124 (pos 3) (pos 0) 0
-    ∷ particle (turn .B) 9 11 200 77 (negℤ (pos 2)) (negℤ (pos 7)) 255
+    first (turn .B) 130 102 (pos 0) (pos 2)
+    ∷ second (turn .B) 149 124 (pos 3) (pos 0)
+    ∷ third (turn .B) 200 77 (negℤ (pos 2)) (negℤ (pos 7))
     ∷ []
 
+abbrev pub again : List Particle
+again =
+    first (entries (pos 8) (pos 126) (negℤ (pos 130)) (pos 2)) 130 104 (pos 0) (pos 2)
+    ∷ second (entries (pos 9) (pos 125) (negℤ (pos 131)) (pos 3)) 152 124 (pos 3) (pos 0)
+    ∷ third (entries (pos 5) (pos 125) (negℤ (pos 130)) (pos 1)) 198 70 (negℤ (pos 2)) (negℤ (pos 7))
+    ∷ []
+
+-- the stretch's
 abbrev pub stretching : List Particle
 stretching =
-    particle (stretch .B) 3 5 81 61 (negℤ (pos 5)) (pos 3) 40
-    ∷ particle (stretch .B) 8 2 101 71 (pos 0) (negℤ (pos 2)) 0
-    ∷ particle (stretch .B) 9 11 137 95 (pos 9) (negℤ (pos 14)) 255
+    first (stretch .B) 81 61 (negℤ (pos 5)) (pos 3)
+    ∷ second (stretch .B) 101 71 (pos 0) (negℤ (pos 2))
+    ∷ third (stretch .B) 137 95 (pos 9) (negℤ (pos 14))
     ∷ []
 
 abbrev pub stretched : List Particle
 stretched =
-    particle (stretch .B) 3 5 76 64 (negℤ (pos 5)) (pos 3) 40
-    ∷ particle (stretch .B) 8 2 101 69 (pos 0) (negℤ (pos 2)) 0
-    ∷ particle (stretch .B) 9 11 146 81 (pos 9) (negℤ (pos 14)) 255
+    first (stretch .B) 76 64 (negℤ (pos 5)) (pos 3)
+    ∷ second (stretch .B) 101 69 (pos 0) (negℤ (pos 2))
+    ∷ third (stretch .B) 146 81 (pos 9) (negℤ (pos 14))
     ∷ []
 
+-- shear's
 abbrev pub shearing : List Particle
 shearing =
-    particle (shear .B) 3 5 70 60 (pos 2) (negℤ (pos 3)) 40
-    ∷ particle (shear .B) 8 2 102 133 (pos 2) (pos 0) 0
-    ∷ particle (shear .B) 9 11 166 97 (pos 2) (pos 6) 255
+    first (shear .B) 70 60 (pos 2) (negℤ (pos 3))
+    ∷ second (shear .B) 102 133 (pos 2) (pos 0)
+    ∷ third (shear .B) 166 97 (pos 2) (pos 6)
     ∷ []
 
 abbrev pub sheared : List Particle
 sheared =
-    particle (shear .B) 3 5 72 57 (pos 2) (negℤ (pos 3)) 40
-    ∷ particle (shear .B) 8 2 104 133 (pos 2) (pos 0) 0
-    ∷ particle (shear .B) 9 11 168 103 (pos 2) (pos 6) 255
+    first (shear .B) 72 57 (pos 2) (negℤ (pos 3))
+    ∷ second (shear .B) 104 133 (pos 2) (pos 0)
+    ∷ third (shear .B) 168 103 (pos 2) (pos 6)
     ∷ []
 
--- the drift's particles after so many steps
+-- the drift's, at these places
 abbrev pub glides : ℕ → ℕ → ℕ → ℕ → ℕ → ℕ → List Particle
 glides x₁ y₁ x₂ y₂ x₃ y₃ =
-    particle (gliding .B) 3 5 x₁ y₁ (pos 7) (negℤ (pos 4)) 40
-    ∷ particle (gliding .B) 8 2 x₂ y₂ (pos 7) (negℤ (pos 4)) 0
-    ∷ particle (gliding .B) 9 11 x₃ y₃ (pos 7) (negℤ (pos 4)) 255
+    first (gliding .B) x₁ y₁ (pos 7) (negℤ (pos 4))
+    ∷ second (gliding .B) x₂ y₂ (pos 7) (negℤ (pos 4))
+    ∷ third (gliding .B) x₃ y₃ (pos 7) (negℤ (pos 4))
     ∷ []
 
--- the turn, but vx of its second particle, which is 4 and not 3
+-- the turn's, but vx of the second, which is 4 and not 3; before and after a step
 abbrev pub missing : List Particle
 missing =
-    particle (turn .B) 3 5 130 100 (pos 0) (pos 2) 40
-    ∷ particle (turn .B) 8 2 146 124 (pos 4) (pos 0) 0
-    ∷ particle (turn .B) 9 11 202 84 (negℤ (pos 2)) (negℤ (pos 7)) 255
+    first (turn .B) 130 100 (pos 0) (pos 2)
+    ∷ second (turn .B) 146 124 (pos 4) (pos 0)
+    ∷ third (turn .B) 202 84 (negℤ (pos 2)) (negℤ (pos 7))
     ∷ []
 
 abbrev pub missed : List Particle
 missed =
-    particle (entries (pos 0) (pos 131) (negℤ (pos 128)) (pos 0)) 3 5 130 102 (pos 0) (pos 2) 40
-    ∷ particle (entries (negℤ (pos 2)) (pos 134) (negℤ (pos 128)) (pos 0)) 8 2 149 124 (pos 3) (pos 0) 0
-    ∷ particle (entries (negℤ (pos 1)) (pos 129) (negℤ (pos 128)) (pos 0)) 9 11 200 77 (negℤ (pos 2)) (negℤ (pos 7)) 255
+    first (entries (pos 0) (pos 131) (negℤ (pos 128)) (pos 0)) 130 102 (pos 0) (pos 2)
+    ∷ second (entries (negℤ (pos 2)) (pos 134) (negℤ (pos 128)) (pos 0)) 149 124 (pos 3) (pos 0)
+    ∷ third (entries (negℤ (pos 1)) (pos 129) (negℤ (pos 128)) (pos 0)) 200 77 (negℤ (pos 2)) (negℤ (pos 7))
     ∷ []
 
 -- ---- calls, with grids that hold something
@@ -148,22 +168,22 @@ pub record Stepped (before after : List Particle) : Type 0 where
 
 pub record Examples : Type 0 where
   pub unforced : Unforced (still 6 5)
-  pub turn-follows : Each (Follows 1024 turn) turning
+  pub turn-follows : Each (Follows 1024 4 turn) turning
   pub turn-steps : Stepped turning turned
-  pub stretch-follows : Each (Follows 1024 stretch) stretching
+  -- a second step rounds: the same v at other places is no flow any more
+  pub turn-again : Stepped turned again
+  pub stretch-follows : Each (Follows 1024 4 stretch) stretching
   pub stretch-steps : Stepped stretching stretched
-  pub shear-follows : Each (Follows 1024 shear) shearing
+  pub shear-follows : Each (Follows 1024 4 shear) shearing
   pub shear-steps : Stepped shearing sheared
-  -- the turn comes back once: the same v at other places is no flow any more
-  pub turn-once : (f : Flow) → Each (Follows 1024 f) turned → ⊥
   -- two steps; and at most three, since the fourth would move the third particle off the grid
-  pub drift-follows : Each (Follows 1024 gliding) (glides 60 150 85 140 265 201)
+  pub drift-follows : Each (Follows 1024 4 gliding) (glides 60 150 85 140 265 201)
   pub drift-answer : running 2 (glides 60 150 85 140 265 201) .answer ≡ record { completed = 2; stop = done }
   pub drift-left : running 2 (glides 60 150 85 140 265 201) .records ≡ recordsOf (glides 74 142 99 132 279 193)
   pub stopped-answer : running 9 (glides 60 150 85 140 265 201) .answer ≡ record { completed = 3; stop = refused 15 2 }
   pub stopped-left : running 9 (glides 60 150 85 140 265 201) .records ≡ recordsOf (glides 81 138 106 128 286 189)
   -- the premise is needed: no flow has all three particles, though the turn has two of them; the step is done, and no B comes
   -- back, nor does the second particle's velocity
-  pub two-follow : Each (Follows 1024 turn) (particle (turn .B) 3 5 130 100 (pos 0) (pos 2) 40 ∷ particle (turn .B) 9 11 202 84 (negℤ (pos 2)) (negℤ (pos 7)) 255 ∷ [])
-  pub none-fits : (f : Flow) → Each (Follows 1024 f) missing → ⊥
+  pub two-follow : Each (Follows 1024 4 turn) (first (turn .B) 130 100 (pos 0) (pos 2) ∷ third (turn .B) 202 84 (negℤ (pos 2)) (negℤ (pos 7)) ∷ [])
+  pub none-fits : (f : Flow) → Each (Follows 1024 4 f) missing → ⊥
   pub missing-steps : Stepped missing missed

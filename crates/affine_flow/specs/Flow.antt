@@ -3,7 +3,7 @@
 -- the moments and any D. Places and velocities are in the engine's units, nodes 64 apart. Assumes nothing.
 use mathlib.Core.Path.{_≡_}
 use mathlib.Core.List.{List, [], _∷_}
-use Prim.Native.Nat.{ℕ, _*_, _/_, _%_, _<_, _≤_}
+use Prim.Native.Nat.{ℕ, _*_, _<_, _≤_}
 use lib.IntN.{ℤ, pos, _+ℤ_, _*ℤ_}
 use Rattle.refusal.specs.Refused.{Answer, result, done}
 use Rattle.arith.specs.Sums.{Each}
@@ -27,11 +27,11 @@ pub record Flow : Type 0 where
 abbrev pub timesPlace : Flow → Axis → ℕ → ℕ → ℤ
 timesPlace f a x y = f .B a alongX *ℤ pos x +ℤ f .B a alongY *ℤ pos y
 
--- the particle has the flow's B, and its v is A + B·(its place)/D: D·v = (D/256)·A + B·place, which is 1024·v = 4·A + B·place for
--- the engine's D
-pub record Follows (D : ℕ) (f : Flow) (p : Particle) : Type 0 where
+-- the particle has the flow's B, and its v is A + B·(its place)/D: with D = 256·k it is D·v = k·A + B·place, and so for the
+-- engine's D 1024·v = 4·A + B·place
+pub record Follows (D k : ℕ) (f : Flow) (p : Particle) : Type 0 where
   pub its-affine : (a b : Axis) → affine a b p ≡ f .B a b
-  pub its-velocity : (a : Axis) → pos D *ℤ velocity a p ≡ pos (D / 256) *ℤ f .A a +ℤ timesPlace f a (p .x) (p .y)
+  pub its-velocity : (a : Axis) → pos D *ℤ velocity a p ≡ pos k *ℤ f .A a +ℤ timesPlace f a (p .x) (p .y)
 
 -- B = 0
 abbrev pub drift : (Axis → ℤ) → Flow
@@ -65,7 +65,7 @@ EachPair R (x ∷ xs) (y ∷ ys) = R x y × EachPair R xs ys
 -- "a step that isn't refused", by what its promise says that a caller sees. A set that is not accepted is refused
 abbrev pub StepKeepsFlow : Type 0
 StepKeepsFlow =
-    (s : Settings) → Unforced s → (f : Flow) (records : List ℕ) → Each (Follows 1024 f) (particlesIn records) → (grids : Grids)
+    (s : Settings) → Unforced s → (f : Flow) (records : List ℕ) → Each (Follows 1024 4 f) (particlesIn records) → (grids : Grids)
     → (told : Answer Unit) (after mass : List ℕ) (x y : List ℤ) → Sees (stepAfter s records grids) told after mass x y
     → told ≡ done → EachPair (MovedBy 1) (particlesIn records) (particlesIn after)
 
@@ -79,7 +79,7 @@ pub record Drifts (steps : ℕ) (told : Completion) (before after : List Particl
 -- "a uniform drift is the case B = 0": a run of any length, refused at entry or not, stopped or not
 abbrev pub RunKeepsDrift : Type 0
 RunKeepsDrift =
-    (s : Settings) → Unforced s → (A : Axis → ℤ) (records : List ℕ) → Each (Follows 1024 (drift A)) (particlesIn records)
+    (s : Settings) → Unforced s → (A : Axis → ℤ) (records : List ℕ) → Each (Follows 1024 4 (drift A)) (particlesIn records)
     → (steps : ℕ) (grids : Grids)
     → (told : Completion) (after mass : List ℕ) (x y : List ℤ) → Sees (runAfter s steps records grids) told after mass x y
     → Drifts steps told (particlesIn records) (particlesIn after)
@@ -96,7 +96,7 @@ pub record Divides (D : ℕ) (f : Flow) : Type 0 where
   pub quotient : Axis → Axis → ℤ
   pub is : (a b : Axis) → pos D *ℤ quotient a b ≡ pos 16384 *ℤ f .B a b
 
--- which is the same, of nodes both ways
+-- of two nodes or more each way, the two are the same
 pub record EntriesAndNodes (D : ℕ) (f : Flow) (nx ny : ℕ) : Type 0 where
   pub nodes : Divides D f → WholeAtNodes D f nx ny
   pub entries : WholeAtNodes D f nx ny → Divides D f
@@ -108,10 +108,10 @@ WholeByEntries = (D : ℕ) (f : Flow) (nx ny : ℕ) → 2 ≤ nx → 2 ≤ ny �
 abbrev pub SplineDivides : Type 0
 SplineDivides = (f : Flow) → Divides 1024 f
 
--- a step's definition, of particles with mass whose weights have the moments; D is a multiple of 256
+-- a step's definition, of particles with mass whose weights have the moments
 abbrev pub FlowComesBack : Type 0
 FlowComesBack =
-    (w : ℕ → ℕ → ℤ) (D : ℕ) → 0 < D → D % 256 ≡ 0 → (s : Settings) → Unforced s
+    (w : ℕ → ℕ → ℤ) (D k : ℕ) → D ≡ 256 * k → 0 < k → (s : Settings) → Unforced s
     → (f : Flow) → WholeAtNodes D f (s .nx) (s .ny) → (ps : List Particle) → Each (Placed w D (s .nx) (s .ny)) ps
-    → Each (λ p. 0 < p .mass) ps → Each (Follows D f) ps
+    → Each (λ p. 0 < p .mass) ps → Each (Follows D k f) ps
     → (qs : List Particle) → stepBy w D s ps ≡ result qs → EachPair (MovedBy 1) ps qs

@@ -1,7 +1,6 @@
 //! Affine flows through the library: a step gives every particle its v and B back and moves it by its
 //! v, a run of a drift goes on so, and `affine_flow` tells such files from others.
 
-use std::collections::BTreeSet;
 use std::path::Path;
 
 use compare::{count, seed, stream};
@@ -62,34 +61,59 @@ fn times([bxx, bxy, byx, byy]: [i128; 4], (dx, dy): (i128, i128)) -> [i128; 2] {
     [bxx * dx + bxy * dy, byx * dx + byy * dy]
 }
 
-/// The entries of B that have this shape: none, a turn, a stretch, shear on either axis, or any.
-fn shape(kind: i128, [xx, xy, yx, yy]: [i128; 4]) -> [i128; 4] {
+/// The kinds of flows: a drift, a turn, a stretch, shear on either axis, any B, and one whose rows total multiples of
+/// 1024, so that neighbours along a diagonal have whole velocities whatever its entries are.
+const KINDS: usize = 7;
+const DRIFT: usize = 0;
+const DIAGONAL: usize = 6;
+
+/// B of a flow of this kind, with entries that are multiples of this power of 2 but for the last kind.
+fn affine(numbers: &mut Generator, kind: usize, power: i128) -> [i128; 4] {
+    let steepest = numbers.one_of(&[1, 3, 2047]).min(2047 >> power);
+    let mut entry = || (numbers.one_of(&[-1, 1]) * numbers.between(1, steepest)) << power;
+    let [xx, xy, yx, yy] = std::array::from_fn(|_| entry());
     match kind {
-        0 => [0; 4],
+        DRIFT => [0; 4],
         1 => [0, xy, -xy, 0],
         2 => [xx, 0, 0, yy],
         3 => [0, xy, 0, 0],
         4 => [0, 0, yx, 0],
+        DIAGONAL => {
+            let mut row = || {
+                let total = 1024 * numbers.between(-2, 2);
+                let (low, high) = ((total - 2047).max(-2047), (total + 2047).min(2047));
+                let between = numbers.between(low, high);
+                let first = numbers.one_of(&[low, high, between, between]);
+                (first, total - first)
+            };
+            let ((xx, xy), (yx, yy)) = (row(), row());
+            [xx, xy, yx, yy]
+        }
         _ => [xx, xy, yx, yy],
     }
 }
 
-/// A flow of this kind on an accepted size. The entries of B are multiples of a power of 2, and most places are so
-/// far apart that B·d is a multiple of 1024; others are where it happens to be.
-fn bath(numbers: &mut Generator, kind: i128) -> Bath {
+/// A number of this range, ends included more often.
+fn within(numbers: &mut Generator, (low, high): (i128, i128)) -> i128 {
+    let between = numbers.between(low, high);
+    numbers.one_of(&[
+        low, high, between, between, between, between, between, between,
+    ])
+}
+
+/// A flow of this kind on an accepted size. Most places are so far apart that B·d is a multiple of 1024;
+/// others are where it happens to be.
+fn bath(numbers: &mut Generator, kind: usize) -> Bath {
     let size = numbers.size();
     let power = numbers.between(0, 10);
-    let apart = 1024 >> power;
-    let steepest = numbers.one_of(&[1, 3, 2047]).min(2047 >> power);
-    let entries = std::array::from_fn(|_| numbers.between(-steepest, steepest) << power);
-    let b = shape(kind, entries);
+    let b = affine(numbers, kind, power);
 
     let ends = |nodes: i128| (32, 64 * (nodes - 1) - 33);
-    let ((x0, x1), (y0, y1)) = (ends(size.nx), ends(size.ny));
+    let (columns, rows) = (ends(size.nx), ends(size.ny));
     let fastest = numbers.one_of(&[0, 4, 20, MAX_VELOCITY]);
     let (place, v, a) = loop {
-        let place = (numbers.between(x0, x1), numbers.between(y0, y1));
-        let v: [i128; 2] = std::array::from_fn(|_| numbers.between(-fastest, fastest));
+        let place = (within(numbers, columns), within(numbers, rows));
+        let v: [i128; 2] = std::array::from_fn(|_| within(numbers, (-fastest, fastest)));
         let [bx, by] = times(b, place);
         let four_a = [1024 * v[0] - bx, 1024 * v[1] - by];
         if four_a.iter().all(|four_a| four_a % 4 == 0) {
@@ -97,19 +121,22 @@ fn bath(numbers: &mut Generator, kind: i128) -> Bath {
         }
     };
 
-    let wanted = numbers.between(1, 40);
+    let wanted = numbers.between(1, 40) as usize;
     let mut identifier = numbers.between(0, 500);
     let mut particles = Vec::new();
     for _ in 0..20 * wanted {
-        if particles.len() as i128 == wanted {
+        if particles.len() == wanted {
             break;
         }
         let (x, y) = if particles.is_empty() {
             place
         } else if numbers.once_in(3) {
-            (numbers.between(x0, x1), numbers.between(y0, y1))
+            (within(numbers, columns), within(numbers, rows))
+        } else if kind == DIAGONAL {
+            let along = numbers.between(-40, 40);
+            (place.0 + along, place.1 + along)
         } else {
-            let mut near = |middle: i128| middle + apart * numbers.between(-6, 6);
+            let mut near = |middle: i128| middle + (1024 >> power) * numbers.between(-6, 6);
             (near(place.0), near(place.1))
         };
         let change = times(b, (x - place.0, y - place.1));
@@ -135,6 +162,18 @@ fn bath(numbers: &mut Generator, kind: i128) -> Bath {
         b,
         particles,
     }
+}
+
+/// Whether two particles with different velocities reach the same nodes.
+fn mixes(particles: &[Particle]) -> bool {
+    let mix = |p: &Particle, q: &Particle| {
+        let near = (p.x - q.x).abs() < 128 && (p.y - q.y).abs() < 128;
+        near && (p.vx, p.vy) != (q.vx, q.vy)
+    };
+    let pairs = particles.iter().enumerate();
+    pairs
+        .into_iter()
+        .any(|(k, p)| particles[k + 1..].iter().any(|q| mix(p, q)))
 }
 
 /// The particles, each moved so many times by its velocity.
@@ -200,27 +239,24 @@ fn stepped(name: &str, bath: &Bath) -> bool {
 
 #[test]
 fn a_step_gives_a_flow_back() {
-    let (mut done, mut refused, mut wide) = ([0; 6], 0, 0);
-    let flows = count().div_ceil(4);
-    for number in 0..flows {
+    let (mut done, mut mixed, mut refused) = ([0; KINDS], [0; KINDS], 0);
+    for number in 0..count().div_ceil(4) {
         let name = format!("flow, COMPARE_SEED {}, input {number}", seed());
-        let numbers = &mut stream("flow", number);
-        let kind = numbers.between(0, 5);
-        let bath = bath(numbers, kind);
+        let kind = number as usize % KINDS;
+        let bath = bath(&mut stream("flow", number), kind);
         let found = affine_flow(&file(bath.settings(), 1, &bath.particles));
         assert_eq!(found, Ok(bath.flow()), "{name}");
         if stepped(&name, &bath) {
-            done[kind as usize] += 1;
-            let places: BTreeSet<_> = bath.particles.iter().map(|p| (p.x, p.y)).collect();
-            wide += u64::from(bath.b != [0; 4] && places.len() >= 3);
+            done[kind] += 1;
+            mixed[kind] += usize::from(mixes(&bath.particles));
         } else {
             refused += 1;
         }
     }
-    let enough = done.iter().all(|&done| done > 0) && refused > 0 && wide > flows / 4;
+    let enough = (1..KINDS).all(|kind| 4 * mixed[kind] > done[kind]) && mixed[DRIFT] == 0;
     assert!(
-        enough,
-        "{done:?} done by kind, {refused} refused, {wide} of three places"
+        enough && done[DRIFT] > 0 && refused > 0,
+        "by kind {done:?} done, {mixed:?} of which mix velocities; {refused} refused"
     );
 }
 
@@ -230,7 +266,7 @@ fn a_run_gives_a_drift_back() {
     for number in 0..count().div_ceil(10) {
         let name = format!("drift, COMPARE_SEED {}, input {number}", seed());
         let numbers = &mut stream("drift", number);
-        let bath = bath(numbers, 0);
+        let bath = bath(numbers, DRIFT);
         let most = numbers.one_of(&[3, 40, 10_000]);
         let steps = numbers.between(0, most);
         let leaving = (0..steps).find_map(|k| {
@@ -266,8 +302,7 @@ fn what_is_no_flow() {
     for number in 0..count().div_ceil(4) {
         let name = format!("no flow, COMPARE_SEED {}, input {number}", seed());
         let numbers = &mut stream("no flow", number);
-        let kind = numbers.between(0, 5);
-        let mut bath = bath(numbers, kind);
+        let mut bath = bath(numbers, number as usize % KINDS);
         let settings = bath.settings();
         let others = [
             (Settings { gx: 1, ..settings }, NoFlow::Gravity),
@@ -322,6 +357,39 @@ fn what_is_no_flow() {
         changed += 1;
     }
     assert!(changed > 0, "no particle changed");
+}
+
+/// A of one particle is a whole number of 256ths where B·place is a multiple of 4, on each axis by each
+/// entry of B.
+#[test]
+fn a_of_whole_256ths() {
+    let settings = Settings::new(Size::new(6, 5), 0, 0);
+    for (x, y) in [
+        (100, 120),
+        (101, 120),
+        (102, 120),
+        (103, 120),
+        (100, 121),
+        (100, 123),
+    ] {
+        for entry in 0..4 {
+            let mut b = [0; 4];
+            b[entry] = if x % 2 == 0 { 1 } else { -5 };
+            let [bx, by] = times(b, (x, y));
+            let particle = Particle::at_rest(4, 9, x, y).moving(3, -2).with_b(b);
+            let found = affine_flow(&file(settings, 1, &[particle]));
+            let whole = bx % 4 == 0 && by % 4 == 0;
+            assert_eq!(whole, [x, y, x, y][entry] % 4 == 0);
+            let a = found.map(|flow| (4 * flow.ax, 4 * flow.ay));
+            let wanted = (3 * 1024 - bx as i64, -2 * 1024 - by as i64);
+            let expected = if whole {
+                Ok(wanted)
+            } else {
+                Err(NoFlow::Velocity(0))
+            };
+            assert_eq!(a, expected, "{b:?} at ({x}, {y})");
+        }
+    }
 }
 
 /// A file of the folder of samples.

@@ -1,4 +1,4 @@
-//! Affine flows: bath files whose step gives every particle its v and B back.
+//! Affine flows: bath files of which it is proved that a step gives every particle its v and B back.
 
 use std::error::Error;
 use std::fmt;
