@@ -1,4 +1,5 @@
--- The examples, by computing both sides of every equation. Assumes nothing.
+-- The examples, by computing both sides of every equation; that no flow fits, by the difference of two velocities.
+-- Assumes nothing.
 use mathlib.Core.Path.{_≡_, refl, sym, _∙_}
 use mathlib.Core.List.{[], _∷_}
 use native.Mathlib.Omega.{arith}

@@ -46,7 +46,7 @@ gliding = drift (both (pos 1792) (negℤ (pos 1024)))
 
 -- ---- particles
 
--- three of them, with this B, place and velocity
+-- with this B, place and velocity; `first`, `second` and `third` have identifier, mass and marks
 abbrev particle : ℕ → ℕ → ℕ → (Axis → Axis → ℤ) → ℕ → ℕ → ℤ → ℤ → Particle
 particle identifier mass marks B x y vx vy =
     record {

@@ -86,7 +86,7 @@ RunKeepsDrift =
 
 -- ---- any weights, any D
 
--- "A + B·(node place)/D is a whole number of 256ths at every node": u of node (i, j), whose place is (64·i, 64·j)
+-- "A + B·(node place)/D must then be a whole number of 256ths at every node" (Paper 11): u of node (i, j), at (64·i, 64·j)
 pub record WholeAtNodes (D : ℕ) (f : Flow) (nx ny : ℕ) : Type 0 where
   pub u : Axis → ℕ → ℕ → ℤ
   pub is : (a : Axis) (i j : ℕ) → i < nx → j < ny → pos D *ℤ u a i j ≡ pos D *ℤ f .A a +ℤ pos 256 *ℤ timesPlace f a (64 * i) (64 * j)

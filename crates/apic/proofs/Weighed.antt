@@ -86,9 +86,9 @@ module _ {w : ℕ → ℕ → ℤ} {D nx ny : ℕ} {p : Particle} (placed : Plac
       alone c D = ring (c ∷ D ∷ []) (search quote depth 30) (search quote depth 30) tt
 
   -- the field times the offset on an axis
-  abbrev turned : Axis → ℤ → ℤ → ℤ → Quadratic
-  turned alongX c sx sy = record { constant = pos 0; x = c; y = pos 0; xx = sx; xy = sy; yy = pos 0 }
-  turned alongY c sx sy = record { constant = pos 0; x = pos 0; y = c; xx = pos 0; xy = sx; yy = sy }
+  abbrev times-offset : Axis → ℤ → ℤ → ℤ → Quadratic
+  times-offset alongX c sx sy = record { constant = pos 0; x = c; y = pos 0; xx = sx; xy = sy; yy = pos 0 }
+  times-offset alongY c sx sy = record { constant = pos 0; x = pos 0; y = c; xx = pos 0; xy = sx; yy = sy }
 
   pub linear-affine : (b : Axis) → pos k *ℤ overNodes nx ny (λ i j. W i j *ℤ u i j *ℤ apart b p i j) ≡ pos (2 ^ 26) *ℤ (pos D *ℤ slope b)
   linear-affine b =
@@ -97,19 +97,19 @@ module _ {w : ℕ → ℕ → ℤ} {D nx ny : ℕ} {p : Particle} (placed : Plac
       taken-out (pos k) (W i j *ℤ u i j) (apart b p i j)
       ∙ ap (λ s. s *ℤ apart b p i j) (shared i j in-x in-y)
       ∙ spread b (W i j) c (slope alongX) (slope alongY) i j)
-      ∙ node-quadratic placed (turned b c (slope alongX) (slope alongY))
+      ∙ node-quadratic placed (times-offset b c (slope alongX) (slope alongY))
       ∙ second b
     where
       taken-out : (k s d : ℤ) → k *ℤ (s *ℤ d) ≡ k *ℤ s *ℤ d
       taken-out k s d = ring (k ∷ s ∷ d ∷ []) (search quote depth 30) (search quote depth 30) tt
 
-      on-x : (W c sx sy dx dy : ℤ) → W *ℤ (c +ℤ sx *ℤ dx +ℤ sy *ℤ dy) *ℤ dx ≡ W *ℤ at (turned alongX c sx sy) dx dy
+      on-x : (W c sx sy dx dy : ℤ) → W *ℤ (c +ℤ sx *ℤ dx +ℤ sy *ℤ dy) *ℤ dx ≡ W *ℤ at (times-offset alongX c sx sy) dx dy
       on-x W c sx sy dx dy = ring (W ∷ c ∷ sx ∷ sy ∷ dx ∷ dy ∷ []) (search quote depth 30) (search quote depth 30) tt
 
-      on-y : (W c sx sy dx dy : ℤ) → W *ℤ (c +ℤ sx *ℤ dx +ℤ sy *ℤ dy) *ℤ dy ≡ W *ℤ at (turned alongY c sx sy) dx dy
+      on-y : (W c sx sy dx dy : ℤ) → W *ℤ (c +ℤ sx *ℤ dx +ℤ sy *ℤ dy) *ℤ dy ≡ W *ℤ at (times-offset alongY c sx sy) dx dy
       on-y W c sx sy dx dy = ring (W ∷ c ∷ sx ∷ sy ∷ dx ∷ dy ∷ []) (search quote depth 30) (search quote depth 30) tt
 
-      spread : (b : Axis) (W c sx sy : ℤ) (i j : ℕ) → W *ℤ (c +ℤ sx *ℤ apart alongX p i j +ℤ sy *ℤ apart alongY p i j) *ℤ apart b p i j ≡ W *ℤ at (turned b c sx sy) (apart alongX p i j) (apart alongY p i j)
+      spread : (b : Axis) (W c sx sy : ℤ) (i j : ℕ) → W *ℤ (c +ℤ sx *ℤ apart alongX p i j +ℤ sy *ℤ apart alongY p i j) *ℤ apart b p i j ≡ W *ℤ at (times-offset b c sx sy) (apart alongX p i j) (apart alongY p i j)
       spread alongX W c sx sy i j = on-x W c sx sy (apart alongX p i j) (apart alongY p i j)
       spread alongY W c sx sy i j = on-y W c sx sy (apart alongX p i j) (apart alongY p i j)
 
@@ -119,6 +119,6 @@ module _ {w : ℕ → ℕ → ℤ} {D nx ny : ℕ} {p : Particle} (placed : Plac
       left : (s D : ℤ) → pos (2 ^ 26) *ℤ (pos 0 +ℤ D *ℤ (pos 0 +ℤ s)) ≡ pos (2 ^ 26) *ℤ (D *ℤ s)
       left s D = ring (s ∷ D ∷ []) (search quote depth 30) (search quote depth 30) tt
 
-      second : (b : Axis) → pos (2 ^ 26) *ℤ (turned b c (slope alongX) (slope alongY) .constant +ℤ pos D *ℤ (turned b c (slope alongX) (slope alongY) .xx +ℤ turned b c (slope alongX) (slope alongY) .yy)) ≡ pos (2 ^ 26) *ℤ (pos D *ℤ slope b)
+      second : (b : Axis) → pos (2 ^ 26) *ℤ (times-offset b c (slope alongX) (slope alongY) .constant +ℤ pos D *ℤ (times-offset b c (slope alongX) (slope alongY) .xx +ℤ times-offset b c (slope alongX) (slope alongY) .yy)) ≡ pos (2 ^ 26) *ℤ (pos D *ℤ slope b)
       second alongX = right (slope alongX) (pos D)
       second alongY = left (slope alongY) (pos D)

@@ -6,7 +6,8 @@
 //! | [`inputs`] | inputs of every operation, valid and damaged, from a seeded stream |
 //!
 //! Two environment variables set what the tests do: `COMPARE_SEED`, the seed, and `COMPARE_COUNT`,
-//! the number of inputs for each operation; the program gets three files for twenty of them.
+//! the number of inputs for each operation; other tests take a part of it, such as flows a quarter, and the
+//! program gets three files for twenty of them.
 
 #![forbid(unsafe_code)]
 #![warn(missing_docs)]

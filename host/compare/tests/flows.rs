@@ -19,7 +19,7 @@ struct Bath {
 }
 
 impl Bath {
-    /// The settings of which the theorem tells.
+    /// Open edges, no drag, no gravity.
     fn settings(&self) -> Settings {
         Settings::new(self.size, 0, 0)
     }
@@ -61,8 +61,8 @@ fn times([bxx, bxy, byx, byy]: [i128; 4], (dx, dy): (i128, i128)) -> [i128; 2] {
     [bxx * dx + bxy * dy, byx * dx + byy * dy]
 }
 
-/// The kinds of flows: a drift, a turn, a stretch, shear on either axis, any B, and one whose rows total multiples of
-/// 1024, so that neighbours along a diagonal have whole velocities whatever its entries are.
+/// The kinds of flows: a drift, a turn, a stretch, shear on either axis, any B, and one whose rows total
+/// multiples of 1024, so that neighbours along a diagonal have whole velocities whatever its entries are.
 const KINDS: usize = 7;
 const DRIFT: usize = 0;
 const DIAGONAL: usize = 6;
@@ -295,7 +295,7 @@ fn a_run_gives_a_drift_back() {
     assert!(done > 0 && stopped > 0, "{done} done, {stopped} stopped");
 }
 
-/// One number of one particle but the first is another, or the settings are.
+/// Other settings, a file one byte short, or one number changed in a particle that is not the first.
 #[test]
 fn what_is_no_flow() {
     let mut changed = 0;

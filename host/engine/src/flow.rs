@@ -1,11 +1,13 @@
-//! Affine flows: bath files of which it is proved that a step gives every particle its v and B back.
+//! Affine flows: bath files of which it is proved that a step which is not refused gives every particle
+//! its v and B back.
 
 use std::error::Error;
 use std::fmt;
 
 use crate::{read_file, read_record, Edge, Particle, Refusal, HEADER_LENGTH, RECORD_LENGTH};
 
-/// An affine flow: every particle has this B, and its velocity is A + B·(its place)/1024.
+/// An affine flow: every particle has this B, and its velocity is A + B·(its place)/1024, with A in
+/// 256ths.
 #[derive(Clone, Copy, Debug, Default, PartialEq, Eq, Hash)]
 pub struct Flow {
     /// A on the x axis, in 256ths of a velocity unit.
@@ -35,8 +37,8 @@ pub enum NoFlow {
     Drag,
     /// This record has another B than record 0.
     OtherB(usize),
-    /// This record's velocity is not A + B·place/1024: by no A of whole 256ths for record 0, and for
-    /// others not by record 0's.
+    /// This record's velocity does not fit: no A of whole 256ths gives record 0's, or record 0's A does
+    /// not give this one's.
     Velocity(usize),
 }
 
@@ -68,7 +70,8 @@ impl From<Refusal> for NoFlow {
 }
 
 impl Flow {
-    /// The flow of one particle of a record, if its A is a whole number of 256ths: 4·A is 1024·v − B·place.
+    /// The flow of one particle, if its A is a whole number of 256ths: 4·A is
+    /// 1024·v − B·place.
     fn of(p: &Particle) -> Option<Self> {
         let (x, y) = (p.x as i64, p.y as i64);
         let four_ax = 1024 * p.vx - (p.bxx * x + p.bxy * y);

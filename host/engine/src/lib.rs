@@ -33,7 +33,8 @@
 //! | step, run | [`step`], [`run`] |
 //! | read a file, write its header | [`read_file`], [`write_header`] |
 //!
-//! [`affine_flow`] says whether a bath file is a flow that a step gives back exactly.
+//! [`affine_flow`] says whether a bath file is a flow that a step gives back exactly. It is written in Rust,
+//! over [`read_file`] and [`read_record`], and not proved.
 //!
 //! `include/gondwize.h` has a table of the stack that each call needs, by the number of its particles.
 //! Where a thread has less, the process ends, as with any function that overflows its stack.

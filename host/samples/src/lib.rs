@@ -283,8 +283,8 @@ fn still() -> Sample {
     }
 }
 
-/// A disc that turns as a whole, each particle by exactly 1/16 of its distance: a step gives every velocity and
-/// every B back.
+/// A disc that turns as a whole, each particle by exactly 1/16 of its distance: a step gives every
+/// velocity and every B back.
 fn turn() -> Sample {
     const TURN: i128 = 64;
     let mut generator = Generator::new(31);
