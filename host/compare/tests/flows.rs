@@ -5,10 +5,11 @@ use std::path::Path;
 
 use compare::{count, seed, stream};
 use engine::{affine_flow, run, step, Flow, GridBuffers, Limit, NoFlow, Refusal};
+use reference::bath_file::pack_file;
 use reference::generator::Generator;
 use reference::limits::MAX_VELOCITY;
 use reference::particle_set::pack_records;
-use reference::{Edge, Header, Particle, Settings, Size};
+use reference::{Edge, Particle, Settings, Size};
 
 /// Particles of a flow, with its A and B.
 struct Bath {
@@ -42,18 +43,6 @@ impl Bath {
         let off = |p: &Particle| !self.size.holds(p.x + p.vx, p.y + p.vy);
         particles.iter().position(off)
     }
-}
-
-/// A file of particles with these settings.
-fn file(settings: Settings, steps: i128, particles: &[Particle]) -> Vec<u8> {
-    let header = Header {
-        settings,
-        count: particles.len() as i128,
-        steps,
-    };
-    let mut file = header.pack(0).to_vec();
-    file.extend(pack_records(particles));
-    file
 }
 
 /// B·d on each axis.
@@ -244,7 +233,7 @@ fn a_step_gives_a_flow_back() {
         let name = format!("flow, COMPARE_SEED {}, input {number}", seed());
         let kind = number as usize % KINDS;
         let bath = bath(&mut stream("flow", number), kind);
-        let found = affine_flow(&file(bath.settings(), 1, &bath.particles));
+        let found = affine_flow(&pack_file(bath.settings(), 1, &bath.particles));
         assert_eq!(found, Ok(bath.flow()), "{name}");
         if stepped(&name, &bath) {
             done[kind] += 1;
@@ -312,10 +301,10 @@ fn what_is_no_flow() {
             (settings.with_drag(1), NoFlow::Drag),
         ];
         for (settings, why) in others {
-            let found = affine_flow(&file(settings, 1, &bath.particles));
+            let found = affine_flow(&pack_file(settings, 1, &bath.particles));
             assert_eq!(found, Err(why), "{name}");
         }
-        let mut cut = file(settings, 1, &bath.particles);
+        let mut cut = pack_file(settings, 1, &bath.particles);
         cut.pop();
         let refusal = engine::read_file(&cut).expect_err("a file of another length");
         assert_eq!(affine_flow(&cut), Err(NoFlow::Refused(refusal)), "{name}");
@@ -325,34 +314,18 @@ fn what_is_no_flow() {
         }
         let k = numbers.between(1, bath.particles.len() as i128 - 1) as usize;
         let p = &mut bath.particles[k];
-        let by = |number: i128| if number > 0 { -1 } else { 1 };
-        let why = match numbers.between(0, 5) {
-            0 => {
-                p.vx += by(p.vx);
-                NoFlow::Velocity(k)
-            }
-            1 => {
-                p.vy += by(p.vy);
-                NoFlow::Velocity(k)
-            }
-            2 => {
-                p.bxx += by(p.bxx);
-                NoFlow::OtherB(k)
-            }
-            3 => {
-                p.bxy += by(p.bxy);
-                NoFlow::OtherB(k)
-            }
-            4 => {
-                p.byx += by(p.byx);
-                NoFlow::OtherB(k)
-            }
-            _ => {
-                p.byy += by(p.byy);
-                NoFlow::OtherB(k)
-            }
+        let velocities = [&mut p.vx, &mut p.vy];
+        let entries = [&mut p.bxx, &mut p.bxy, &mut p.byx, &mut p.byy];
+        let (number, why) = if numbers.once_in(2) {
+            let number = velocities.into_iter().nth(numbers.between(0, 1) as usize);
+            (number, NoFlow::Velocity(k))
+        } else {
+            let number = entries.into_iter().nth(numbers.between(0, 3) as usize);
+            (number, NoFlow::OtherB(k))
         };
-        let found = affine_flow(&file(settings, 1, &bath.particles));
+        let number = number.expect("a number of the particle");
+        *number += if *number > 0 { -1 } else { 1 };
+        let found = affine_flow(&pack_file(settings, 1, &bath.particles));
         assert_eq!(found, Err(why), "{name}");
         changed += 1;
     }
@@ -377,7 +350,7 @@ fn a_of_whole_256ths() {
             b[entry] = if x % 2 == 0 { 1 } else { -5 };
             let [bx, by] = times(b, (x, y));
             let particle = Particle::at_rest(4, 9, x, y).moving(3, -2).with_b(b);
-            let found = affine_flow(&file(settings, 1, &[particle]));
+            let found = affine_flow(&pack_file(settings, 1, &[particle]));
             let whole = bx % 4 == 0 && by % 4 == 0;
             assert_eq!(whole, [x, y, x, y][entry] % 4 == 0);
             let a = found.map(|flow| (4 * flow.ax, 4 * flow.ay));

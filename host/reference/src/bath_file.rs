@@ -4,7 +4,8 @@ use crate::bits::{pack, unpack, Field};
 use crate::edge::Edge;
 use crate::grid::{Settings, Size};
 use crate::limits::{HEADER_LENGTH, MAX_RECORDS, MAX_STEPS, RECORD_LENGTH};
-use crate::particle_set::walk;
+use crate::particle::Particle;
+use crate::particle_set::{pack_records, walk};
 use crate::refusal::{require, Refusal, COUNT, LENGTH, SPARE, STEPS};
 
 /// The fields of the header in their order.
@@ -79,6 +80,18 @@ impl Header {
         pack(&LAYOUT, &fields, &mut bytes);
         bytes
     }
+}
+
+/// A bath file of particles, in range or not.
+pub fn pack_file(settings: Settings, steps: i128, particles: &[Particle]) -> Vec<u8> {
+    let header = Header {
+        settings,
+        count: particles.len() as i128,
+        steps,
+    };
+    let mut file = header.pack(0).to_vec();
+    file.extend(pack_records(particles));
+    file
 }
 
 /// Reads a file: the header's values. Refused: 1 shorter than 11; 2; 10; 18; 3; 17; 16 for either

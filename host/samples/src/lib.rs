@@ -3,11 +3,11 @@
 #![forbid(unsafe_code)]
 #![warn(missing_docs)]
 
+use reference::bath_file::pack_file;
 use reference::generator::Generator;
 use reference::limits::D;
-use reference::particle_set::pack_records;
 use reference::report::program_by;
-use reference::{Edge, Header, Particle, Settings, Size, Sums};
+use reference::{Edge, Particle, Settings, Size, Sums};
 
 /// A bath file with its name.
 #[derive(Clone, Debug, PartialEq, Eq)]
@@ -45,25 +45,13 @@ pub fn samples() -> Vec<Sample> {
     ]
 }
 
-/// A bath file of particles, in range or not.
-fn bath_file(settings: Settings, steps: i128, particles: &[Particle]) -> Vec<u8> {
-    let header = Header {
-        settings,
-        count: particles.len() as i128,
-        steps,
-    };
-    let mut file = header.pack(0).to_vec();
-    file.extend(pack_records(particles));
-    file
-}
-
 /// A bath file of particles with marks, which their places in the file decide: from 0 to 255, without
 /// order.
 fn marked_file(settings: Settings, steps: i128, particles: &[Particle]) -> Vec<u8> {
     let marks = |k: usize| (73 * (k + 1) * (k + 2) / 2) as u8;
     let marked = particles.iter().enumerate();
     let marked = marked.map(|(k, particle)| particle.with_marks(marks(k)));
-    bath_file(settings, steps, &marked.collect::<Vec<_>>())
+    pack_file(settings, steps, &marked.collect::<Vec<_>>())
 }
 
 /// Settings without gravity.
@@ -76,7 +64,7 @@ fn printed() -> Sample {
     let particle = Particle::at_rest(7, 2, 64, 64).moving(3, -2);
     Sample {
         name: "printed",
-        file: bath_file(weightless(4, 4), 1, &[particle]),
+        file: pack_file(weightless(4, 4), 1, &[particle]),
     }
 }
 
@@ -85,7 +73,7 @@ fn empty() -> Sample {
     let settings = Settings::new(Size::new(8, 6), 12, -256);
     Sample {
         name: "empty",
-        file: bath_file(settings, 10, &[]),
+        file: pack_file(settings, 10, &[]),
     }
 }
 
