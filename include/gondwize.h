@@ -6,9 +6,9 @@
  * Slices. A slice is a pointer and its number of elements. The pointer is aligned for its type and
  * leads to as many initialised elements as the number says; where the number is 0 nothing is read or
  * written through it, and it may be NULL. An array parameter, `values[11]`, and a pointer to one
- * number, `count` and `completed`, are never NULL. What a function writes to overlaps nothing else
- * of the call. Nothing is kept after a call, and no function has any state, so calls may run at the
- * same time on memory of their own.
+ * number, `count`, `completed` and `length`, are never NULL. What a function writes to overlaps nothing
+ * else of the call. Nothing is kept after a call, and no function has any state, so calls may run at
+ * the same time on memory of their own.
  *
  * Answers. Every function answers one number:
  *     0                        there is a result
@@ -22,7 +22,8 @@
  *
  * Stack. The most that a call needs, from its caller's frame down, by the number of its particles, in
  * kB of 1,000 bytes. A call that takes no set stands under 0; one that ends with 13, 14, 15, 20 or 21
- * counts by its particles and not as refused.
+ * counts by its particles and not as refused. A keep, a return and a forget count by the particles of
+ * their bath, whatever else the store holds.
  *
  *     kB                        refused        0        1    to 64   to 512 to 4,096
  *     gondwize_run                  3.2      4.3      4.3      4.3     23.0    152.1
@@ -38,8 +39,11 @@
  *     gondwize_weights              0.2      0.2
  *     gondwize_read_record          0.2      0.2
  *     gondwize_write_record         0.2      0.2
- *     gondwize_read_file            0.3      0.3      0.3      0.3      0.3      0.3
+ *     gondwize_read_file            0.4      0.4      0.4      0.4      0.4      0.4
  *     gondwize_write_header         0.2      0.2
+ *     gondwize_keep                 0.7      0.7      0.7      0.7      0.7      0.7
+ *     gondwize_return               0.6      0.6      0.6      0.6      0.6      0.6
+ *     gondwize_forget               0.6      0.6      0.6      0.6      0.6      0.6
  */
 #ifndef GONDWIZE_H
 #define GONDWIZE_H
@@ -47,9 +51,9 @@
 #include <stddef.h>
 #include <stdint.h>
 
-#define GONDWIZE_VERSION "5.0.0"
+#define GONDWIZE_VERSION "5.1.0"
 #define GONDWIZE_VERSION_MAJOR 5
-#define GONDWIZE_VERSION_MINOR 0
+#define GONDWIZE_VERSION_MINOR 1
 #define GONDWIZE_VERSION_PATCH 0
 
 /* An answer that must be looked at, and an array of at least so many elements. */
@@ -78,6 +82,12 @@
 #define GONDWIZE_MOST_SET_LENGTH (GONDWIZE_RECORD_LENGTH * GONDWIZE_MOST_RECORDS)
 #define GONDWIZE_FILE_LENGTH(count) (GONDWIZE_HEADER_LENGTH + GONDWIZE_RECORD_LENGTH * (size_t)(count))
 #define GONDWIZE_MOST_FILE_LENGTH (GONDWIZE_HEADER_LENGTH + GONDWIZE_MOST_SET_LENGTH)
+
+/* A store: the longest name, places, and lengths in bytes: of a place, of a store. */
+#define GONDWIZE_NAME_LENGTH 8
+#define GONDWIZE_STORE_PLACES 4
+#define GONDWIZE_STORE_PLACE_LENGTH (GONDWIZE_NAME_LENGTH + GONDWIZE_MOST_FILE_LENGTH)
+#define GONDWIZE_STORE_LENGTH (GONDWIZE_STORE_PLACES * GONDWIZE_STORE_PLACE_LENGTH)
 
 /* How many values a function hands back. */
 #define GONDWIZE_PARTICLE_VALUES 11
@@ -129,10 +139,11 @@
 /*
  * Number, name, and what is broken. A wrong length is: a record not 15, a header not 11, a set not a
  * multiple of 15 or above 61,440, a file shorter than 11 or not 11 + 15 * count, a grid buffer not
- * nx * ny. A position is off the grid, or, in writing a record, above 4095.
+ * nx * ny, a return's buffer below 61,451, a store not 245,836. A position is off the grid, or, in
+ * writing a record, above 4095.
  */
 #define GONDWIZE_REFUSALS(X) \
-    X(1, LENGTH, "a record, a set, a grid buffer or a file has the wrong length") \
+    X(1, LENGTH, "a record, set, grid, file, buffer or store has the wrong length, or a store the wrong form") \
     X(2, GRID_SIZE, "nx or ny is not 4 to 48") \
     X(3, COUNT, "the count is above 4096") \
     X(4, MASS, "a mass is not 1 to 1023") \
@@ -152,7 +163,10 @@
     X(18, EDGE, "the edge is neither open with width 0 nor sticky or slip with width 1 to 3") \
     X(19, DRAG, "drag is above 255") \
     X(20, PRESENT_NODE, "a present node's mass is above 2^43, or its momentum beyond 457536 times its mass") \
-    X(21, ADDED_MASS, "a node's mass would pass 2^43")
+    X(21, ADDED_MASS, "a node's mass would pass 2^43") \
+    X(22, NAME, "a name is not 1 to 8 letters A to Z") \
+    X(23, NOT_HELD, "the name is not held") \
+    X(24, FULL_STORE, "four other names are held")
 
 /* GONDWIZE_REFUSED_LENGTH = 1 and so on. */
 #define GONDWIZE_REFUSAL_CONSTANT(number, name, text) GONDWIZE_REFUSED_##name = number,
@@ -331,6 +345,42 @@ GONDWIZE_MUST_USE uint64_t gondwize_write_header(size_t nx, size_t ny, int64_t g
                                                  size_t count, size_t steps,
                                                  size_t kind, size_t width, size_t drag,
                                                  uint8_t *bytes, size_t bytes_length);
+
+/* ---- Stores: baths kept under a name. */
+
+/*
+ * A store is 245,836 bytes of the caller's: four places of 61,459 bytes one after the other. A place is
+ * free where all of its bytes are zero. Else its first 8 bytes are a name, 1 to 8 letters A to Z with
+ * zeros after them; then comes a bath file that gondwize_read_file accepts, of 11 + 15 * count bytes, and
+ * zeros after it to the place's end. No name stands in two places. A store of zeros is empty. What is
+ * not of this length and form is refused with 1 before all else, and a call on what is leaves it so.
+ * A name is given without zeros: its letters, and how many.
+ */
+
+/*
+ * Keeps a bath file under a name: in the place that holds the name, where nothing of the bath before is
+ * left, or else in the lowest that is free. Other places stay as they are.
+ * Refused: 1 the store; 22; as gondwize_read_file; 24 where the name is not held and no place is free.
+ */
+GONDWIZE_MUST_USE uint64_t gondwize_keep(uint8_t *store, size_t store_length,
+                                         const uint8_t *name, size_t name_length,
+                                         const uint8_t *file, size_t file_length);
+
+/*
+ * Returns to the bath that is held under a name: its file stands at the front of `buffer`, the rest of
+ * which stays as it is. `length`: that of the file.
+ * Refused: 1 the store; 1 `buffer_length` below 61,451; 22; 23.
+ */
+GONDWIZE_MUST_USE uint64_t gondwize_return(const uint8_t *store, size_t store_length,
+                                           const uint8_t *name, size_t name_length,
+                                           uint8_t *buffer, size_t buffer_length, uint64_t *length);
+
+/*
+ * Forgets the bath that is held under a name: every byte of its place is zero.
+ * Refused: 1 the store; 22; 23.
+ */
+GONDWIZE_MUST_USE uint64_t gondwize_forget(uint8_t *store, size_t store_length,
+                                           const uint8_t *name, size_t name_length);
 
 #ifdef __cplusplus
 }

@@ -3,8 +3,9 @@
  * header and of a run's settings at its edge and far beyond, those of a set, of a node, of a node that
  * is added to and of an offset at their edge and one beyond, what drag and edges leave of a node's
  * velocity, sets that are added in parts, every number of marks, and that calls leave them, totals,
- * refusals by name and by text, empty slices, and a file that is written and read back. Exits with 1
- * where something differs, and says where.
+ * refusals by name and by text, empty slices, a file that is written and read back, names and stores at
+ * their edges, and a store of four of the largest baths. Exits with 1 where something differs, and says
+ * where.
  */
 #include <inttypes.h>
 #include <stdio.h>
@@ -579,6 +580,11 @@ static void empty_slices(void)
     same("a refused run's completed", number, 0);
     same("read_file", gondwize_read_file(NULL, 0, values), length);
     same("write_header", gondwize_write_header(4, 4, 0, 0, 0, 0, 0, 0, 0, NULL, 0), length);
+    number = 9;
+    same("keep's store", gondwize_keep(NULL, 0, NULL, 0, NULL, 0), length);
+    same("return's store", gondwize_return(NULL, 0, NULL, 0, NULL, 0, &number), length);
+    same("forget's store", gondwize_forget(NULL, 0, NULL, 0), length);
+    same("a refused return's length", number, 9);
 }
 
 /* ---- Answers and their texts. */
@@ -591,13 +597,15 @@ static void answers(void)
     GONDWIZE_REFUSALS(CHECKED)
 #undef CHECKED
     same("text of 0", (uint64_t)strcmp(gondwize_refusal_text(0), "not refused"), 0);
-    same("text of 22", (uint64_t)strcmp(gondwize_refusal_text(22), "unknown refusal"), 0);
+    same("text of 25", (uint64_t)strcmp(gondwize_refusal_text(25), "unknown refusal"), 0);
     same("number of an answer", GONDWIZE_NUMBER(UINT64_C(7) << 32 | 70000), 7);
     same("place of an answer", GONDWIZE_PLACE(UINT64_C(7) << 32 | 70000), 70000);
-    same("version", (uint64_t)strcmp(GONDWIZE_VERSION, "5.0.0"), 0);
+    same("version", (uint64_t)strcmp(GONDWIZE_VERSION, "5.1.0"), 0);
     same("length of a file", GONDWIZE_FILE_LENGTH(3), 56);
     same("length of the longest file", GONDWIZE_FILE_LENGTH(GONDWIZE_MOST_RECORDS), GONDWIZE_MOST_FILE_LENGTH);
     same("length of the longest set", GONDWIZE_MOST_SET_LENGTH, 61440);
+    same("length of a place", GONDWIZE_STORE_PLACE_LENGTH, 61459);
+    same("length of a store", GONDWIZE_STORE_LENGTH, 245836);
 }
 
 /* ---- Marks: every number of them, and those of three records, which gather, step and run leave. */
@@ -722,6 +730,168 @@ static void files(void)
     same("its values", (uint64_t)memcmp(values, want, sizeof values), 0);
 }
 
+/* ---- Stores. */
+
+static uint8_t store[GONDWIZE_STORE_LENGTH + 1], store_before[GONDWIZE_STORE_LENGTH + 1];
+static uint8_t kept[GONDWIZE_MOST_FILE_LENGTH], buffer[GONDWIZE_MOST_FILE_LENGTH + 1];
+
+enum { PATTERN = 0xA5 };
+
+/* The letters of a string, without its end. */
+static uint64_t kept_as(const char *name, size_t records)
+{
+    return gondwize_keep(store, GONDWIZE_STORE_LENGTH, (const uint8_t *)name, strlen(name), kept,
+                         GONDWIZE_FILE_LENGTH(records));
+}
+
+static uint64_t forgotten(const char *name)
+{
+    return gondwize_forget(store, GONDWIZE_STORE_LENGTH, (const uint8_t *)name, strlen(name));
+}
+
+/* A bath of so many particles, with this gravity, in `kept`. */
+static void put_bath(size_t records, int64_t gx)
+{
+    same("a bath's header", gondwize_write_header(48, 48, gx, 9, records, 12, GONDWIZE_EDGE_SLIP, 2, 7, kept,
+                                                  GONDWIZE_HEADER_LENGTH), 0);
+    for (size_t k = 0; k < records; k++)
+        same("a bath's record", gondwize_write_record((uint16_t)k, 32, 100 + k % 900, 100 + k / 4, 1, -2, 3, -4,
+                                                      5, -6, (uint8_t)(3 * k + 7),
+                                                      kept + GONDWIZE_FILE_LENGTH(k),
+                                                      GONDWIZE_RECORD_LENGTH), 0);
+}
+
+/* A return answers so; what it writes is the bath in `kept`, and a refused one writes nothing. */
+static void return_answers(const char *what, const char *name, size_t room, size_t records, uint64_t want)
+{
+    uint64_t length = 9;
+    memset(buffer, PATTERN, sizeof buffer);
+    same(what, gondwize_return(store, GONDWIZE_STORE_LENGTH, (const uint8_t *)name, strlen(name), buffer, room,
+                               &length), want);
+    const size_t written = want == 0 ? GONDWIZE_FILE_LENGTH(records) : 0;
+    same(what, length, want == 0 ? written : 9);
+    same(what, (uint64_t)memcmp(buffer, kept, written), 0);
+    for (size_t k = written; k < sizeof buffer; k++)
+        if (buffer[k] != PATTERN)
+            same(what, k, sizeof buffer);
+}
+
+/* All three answer so to this much of the store and to a name of these bytes, and change nothing. */
+static void stores_answer(const char *what, size_t room, const char *bytes, size_t count, uint64_t want)
+{
+    const uint8_t *name = (const uint8_t *)bytes;
+    uint64_t length = 9;
+    memcpy(store_before, store, sizeof store);
+    memset(buffer, PATTERN, sizeof buffer);
+    same(what, gondwize_keep(store, room, name, count, kept, GONDWIZE_FILE_LENGTH(1)), want);
+    same(what, gondwize_return(store, room, name, count, buffer, sizeof buffer, &length), want);
+    same(what, gondwize_forget(store, room, name, count), want);
+    same(what, (uint64_t)memcmp(store, store_before, sizeof store), 0);
+    same(what, length, 9);
+    for (size_t k = 0; k < sizeof buffer; k++)
+        if (buffer[k] != PATTERN)
+            same(what, k, sizeof buffer);
+}
+
+static void names(void)
+{
+    const uint64_t malformed = refused(GONDWIZE_REFUSED_NAME, 0);
+    const size_t room = GONDWIZE_STORE_LENGTH;
+    memset(store, 0, sizeof store);
+    put_bath(1, 5);
+    same("a name of 1", kept_as("A", 1), 0);
+    same("a name of 8", kept_as("ZYXABCAZ", 1), 0);
+    stores_answer("no name", room, NULL, 0, malformed);
+    stores_answer("a name of 9", room, "ZYXABCAZA", 9, malformed);
+    stores_answer("a name and its end", room, "A", 2, malformed);
+    stores_answer("a zero", room, "", 1, malformed);
+    stores_answer("a gap", room, "A\0Z", 3, malformed);
+    stores_answer("before A", room, "A@", 2, malformed);
+    stores_answer("after Z", room, "[Z", 2, malformed);
+    stores_answer("a lower case letter", room, "a", 1, malformed);
+    stores_answer("a digit", room, "A1", 2, malformed);
+    same("a name's beginning", forgotten("ZYX"), refused(GONDWIZE_REFUSED_NOT_HELD, 0));
+    same("a name's beginning that is new", kept_as("ZYX", 1), 0);
+    return_answers("a name of 1", "A", GONDWIZE_MOST_FILE_LENGTH, 1, 0);
+    return_answers("a name that is not held", "B", GONDWIZE_MOST_FILE_LENGTH, 1,
+                   refused(GONDWIZE_REFUSED_NOT_HELD, 0));
+    return_answers("a longer buffer", "A", GONDWIZE_MOST_FILE_LENGTH + 1, 1, 0);
+    return_answers("a short buffer", "A", GONDWIZE_MOST_FILE_LENGTH - 1, 1,
+                   refused(GONDWIZE_REFUSED_LENGTH, 0));
+    return_answers("a short buffer and no name", "", 0, 1, refused(GONDWIZE_REFUSED_LENGTH, 0));
+}
+
+/* One byte changed, and put back. */
+static void byte_answers(const char *what, size_t at, uint8_t byte)
+{
+    const uint8_t before = store[at];
+    store[at] = byte;
+    stores_answer(what, GONDWIZE_STORE_LENGTH, "A", 1, refused(GONDWIZE_REFUSED_LENGTH, 0));
+    stores_answer(what, GONDWIZE_STORE_LENGTH, NULL, 0, refused(GONDWIZE_REFUSED_LENGTH, 0));
+    store[at] = before;
+}
+
+static void forms(void)
+{
+    const size_t place = GONDWIZE_STORE_PLACE_LENGTH, file = GONDWIZE_NAME_LENGTH;
+    const size_t end = file + GONDWIZE_FILE_LENGTH(1), last = GONDWIZE_STORE_LENGTH - 1;
+    const uint64_t length = refused(GONDWIZE_REFUSED_LENGTH, 0);
+    memset(store, 0, sizeof store);
+    put_bath(1, 5);
+    same("a store's first", kept_as("AB", 1), 0);
+    stores_answer("a byte less", last, "A", 1, length);
+    stores_answer("a byte more", last + 2, "A", 1, length);
+    stores_answer("one place", place, "A", 1, length);
+    byte_answers("no letter", 0, 0);
+    byte_answers("a lower case letter in a store", 1, 'b');
+    byte_answers("a gap in a store", 3, 'C');
+    byte_answers("a size", file, 0);
+    byte_answers("a spare bit", file + GONDWIZE_HEADER_LENGTH - 1, kept[GONDWIZE_HEADER_LENGTH - 1] | 1);
+    byte_answers("a mass", file + GONDWIZE_HEADER_LENGTH + 2, 0);
+    byte_answers("a byte after the file", end, 1);
+    byte_answers("a place's last byte", place - 1, 1);
+    byte_answers("a free place's first byte", place, 'A');
+    byte_answers("a free place's file", place + file, 1);
+    byte_answers("the last byte", last, 1);
+    memcpy(store + place, store, place);
+    stores_answer("a name in two places", GONDWIZE_STORE_LENGTH, "A", 1, length);
+    memset(store + place, 0, place);
+    same("a store as before", forgotten("AB"), 0);
+    for (size_t k = 0; k < sizeof store; k++)
+        if (store[k] != 0)
+            same("an empty store", k, sizeof store);
+}
+
+/* Four of the largest baths, a fifth, and one that is replaced by a small one. */
+static void largest_baths(void)
+{
+    const char *const held[GONDWIZE_STORE_PLACES] = {"A", "SECOND", "ABCDEFGH", "ABC"};
+    const size_t most = GONDWIZE_MOST_RECORDS, room = GONDWIZE_MOST_FILE_LENGTH;
+    memset(store, 0, sizeof store);
+    for (int k = 0; k < GONDWIZE_STORE_PLACES; k++) {
+        put_bath(most, k);
+        same("a largest bath", kept_as(held[k], most), 0);
+    }
+    same("a fifth", kept_as("FIFTH", most), refused(GONDWIZE_REFUSED_FULL_STORE, 0));
+    same("a file that is cut", kept_as("FIFTH", most - 1), refused(GONDWIZE_REFUSED_LENGTH, 0));
+    for (int k = 0; k < GONDWIZE_STORE_PLACES; k++) {
+        put_bath(most, k);
+        return_answers("a largest bath", held[k], room, most, 0);
+    }
+    put_bath(1, 77);
+    same("a small bath", kept_as(held[1], 1), 0);
+    return_answers("a small bath", held[1], room, 1, 0);
+    for (size_t k = GONDWIZE_NAME_LENGTH + GONDWIZE_FILE_LENGTH(1); k < GONDWIZE_STORE_PLACE_LENGTH; k++)
+        if (store[GONDWIZE_STORE_PLACE_LENGTH + k] != 0)
+            same("a byte of the bath before", k, GONDWIZE_STORE_PLACE_LENGTH);
+    same("a full store", kept_as("FIFTH", 1), refused(GONDWIZE_REFUSED_FULL_STORE, 0));
+    same("forget", forgotten(held[1]), 0);
+    same("forget twice", forgotten(held[1]), refused(GONDWIZE_REFUSED_NOT_HELD, 0));
+    same("a place that is free again", kept_as("FIFTH", 1), 0);
+    same("its name", (uint64_t)memcmp(store + GONDWIZE_STORE_PLACE_LENGTH, "FIFTH\0\0", GONDWIZE_NAME_LENGTH),
+         0);
+}
+
 int main(void)
 {
     records();
@@ -743,6 +913,9 @@ int main(void)
     totals();
     answers();
     files();
+    names();
+    forms();
+    largest_baths();
     if (failures != 0)
         printf("%d answers differ\n", failures);
     return failures != 0;

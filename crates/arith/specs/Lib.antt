@@ -7,5 +7,6 @@ pub mod Rounding
 pub mod Sums
 pub mod Lists
 pub mod Fill
+pub mod Zeros
 pub mod Indices
 pub mod Neighbours

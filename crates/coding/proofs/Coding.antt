@@ -1,14 +1,15 @@
 -- What the operations' needs have in common: an answer's number, and the caller's values after it.
 --     Placed              the place of a refusal is below 2^32
 --     place-of            so it is for the refusal that an operation told
---     code-of             the number of that refusal
+--     code-of, zero-of    the number of that refusal, and of a result
+--     coded-told          an answer's number is that of what is told of it
 --     gave, kept          the values after a result; and after a refusal
 --     tells-done, tells-refused   the same without values
 -- Assumes nothing.
-use mathlib.Core.Path.{_≡_, sym, ap, subst, _∙_}
+use mathlib.Core.Path.{_≡_, refl, sym, ap, subst, _∙_}
 use Prim.Native.Nat.{ℕ, _+_, _*_, _<_}
 use Rattle.refusal.specs.declared.Refusal.{Refusal}
-use Rattle.refusal.specs.Refused.{Answer, result, refused, refusedBy, number, place, either}
+use Rattle.refusal.specs.Refused.{Answer, result, refused, refusedBy, number, place, either, toldOf}
 use Rattle.coding.specs.Coded.{coded, Gives, Tells}
 
 pub data Placed {A : Type 0} : Answer A → Type 0 where
@@ -28,6 +29,11 @@ module _ {A : Type 0} (e : Refusal) {a : Answer A} {told : Answer A} (is : told 
 module _ {A : Type 0} {a : Answer A} {told : Answer A} {x : A} (is : told ≡ a) (by : told ≡ result x) where
   pub zero-of : 0 ≡ coded a
   zero-of = ap coded (sym by ∙ is)
+
+-- the number of what is told of an answer without its value
+pub coded-told : {A : Type 0} (a : Answer A) → coded (toldOf a) ≡ coded a
+coded-told (result x) = refl
+coded-told (refused n k) = refl
 
 module _ {A B : Type 0} {a : Answer A} {values : A → B} {out : B} where
   pub gave : {told : Answer A} {x : A} {out′ : B} → told ≡ a → told ≡ result x → out′ ≡ values x → Gives a values out 0 out′

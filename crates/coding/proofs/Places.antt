@@ -3,10 +3,11 @@
 use mathlib.Core.Path.{_≡_, refl, subst}
 use mathlib.Core.Bool.{Bool, true, false, not, _&&_}
 use mathlib.Core.List.{List, [], _∷_}
+use mathlib.Core.Option.{Option, none, some}
 use Prim.Native.Nat.{ℕ, zero, suc, _+_, _*_, _<_, _≤_}
 use native.Mathlib.Omega.{arith}
 use native.Mathlib.Nat.{mul-le-mul}
-use lib.Dec.{eqb, ltb}
+use lib.Dec.{eqb, leb, ltb}
 use lib.IntN.{ℤ, pos, negsuc}
 use lib.Signed.{leZ}
 use lib.ListN.{length, getD, take, length-map}
@@ -44,6 +45,9 @@ use Rattle.bath_file.specs.declared.Header.{Header}
 use Rattle.bath_file.specs.Layout.{headerLength}
 use Rattle.bath_file.specs.File as file
 use Rattle.bath_file.proofs.Answers.{header-held}
+use Rattle.store.specs.Names.{validName}
+use Rattle.store.specs.Form.{mostFile, placeCount, validStore, placeOf, holds}
+use Rattle.store.specs.Operations as store
 use Rattle.coding.proofs.Coding.{Placed, accepts, refuses}
 
 pub nowhere : 0 < 4294967296
@@ -331,3 +335,30 @@ module _ (bytes : List ℕ) where
 pub header-written : (h : Header) (bytes : List ℕ) → Placed (file.writeAnswer h bytes)
 unfolding file.writeAnswer
 header-written h bytes = plain (not (eqb (length bytes) headerLength)) 1 _ (λ _. header h _ accepts)
+
+-- ---- stores
+
+module _ {A : Type 0} (valid : Bool) (name : List ℕ) (rest : Answer A) where
+  called : Placed rest → Placed (store.checkedCall valid name rest)
+  unfolding store.checkedCall
+  called h = plain (not valid) 1 _ (λ _. plain (not (validName name)) 22 rest (λ _. h))
+
+module _ (bytes name : List ℕ) where
+  pub kept : (bath : List ℕ) → Placed (store.keepAnswer bytes name bath)
+  unfolding store.keepAnswer
+  kept bath =
+      called (validStore bytes) name _
+      (next (file.fileAnswer bath) _ (file-read bath) (λ _ _. plain (not (ltb (store.placeFor bytes name) placeCount)) 24 _ (λ _. accepts)))
+
+  under : (found : Option (List ℕ)) → Placed (store.heldAnswer found)
+  under none = refuses nowhere
+  under (some bath) = accepts
+
+  pub returned : (buffer : List ℕ) → Placed (store.lengthOf (store.returnAnswer bytes name buffer))
+  unfolding store.returnAnswer
+  returned buffer =
+      next (store.returnAnswer bytes name buffer) _ (called (validStore bytes && leb mostFile (length buffer)) name _ (under (holds bytes name))) (λ _ _. accepts)
+
+  pub forgotten : Placed (store.forgetAnswer bytes name)
+  unfolding store.forgetAnswer
+  forgotten = called (validStore bytes) name _ (plain (not (ltb (placeOf bytes name) placeCount)) 23 _ (λ _. accepts))

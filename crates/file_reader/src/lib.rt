@@ -12,8 +12,8 @@ ghost use Rattle.bath_file.specs.Layout.{headerLength};
 ghost use Rattle.bath_file.specs.File.{headerIn, checkedHeader, spareIsZero, headerAnswer, recordsAnswer, fileAnswer, toldRead};
 
 // The header that bytes of its length hold: two words of eight bytes, the second from the fourth byte on, and the fields from them.
-// `read_header` calls it with as many.
-fn unpack(bytes: &[u8]) -> Header
+// `read_header` calls it with as many, and so does crate store_form.
+pub fn unpack(bytes: &[u8]) -> Header
     requires { ⌜ length (now bytes) ≡ headerLength ⌝ }
     ensures { λ r. ⌜ r ≡ headerIn (now (bytes .entry)) ⌝ }
 {

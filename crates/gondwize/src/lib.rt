@@ -8,6 +8,8 @@ use particle::Written;
 use particles::Checked;
 use simulation::Stepped;
 use spline::Weighed;
+use store::Changed;
+use store::Returned;
 use totals::Totalled;
 use transfer::Moved;
 use transfer::Scattered;
@@ -25,6 +27,7 @@ ghost use Rattle.apic.specs.Step.{gridsOf};
 ghost use Rattle.simulation.specs.Step.{Sees, stepAfter};
 ghost use Rattle.bath_file.specs.File.{fileAnswer};
 ghost use Rattle.bath_file.specs.File as file;
+ghost use Rattle.store.specs.Operations.{keepAnswer, keepLeaves, returnAnswer, returnLeaves, forgetAnswer, forgetLeaves, lengthOf};
 ghost use Rattle.wide.specs.Values.{weightValues, settings, particleWith, headerWith};
 ghost use Rattle.coding.specs.Coded.{coded, Gives, Tells};
 ghost use Rattle.settings.specs.Settings.{settingsWith};
@@ -300,5 +303,49 @@ pub extern "C" fn gondwize_write_header(
     match header_writer::write_header(h, bytes) {
         HeaderWritten::Refused(refusal) => answer::code(refusal),
         HeaderWritten::Done => 0,
+    }
+}
+
+// Keep.
+#[no_mangle]
+pub extern "C" fn gondwize_keep(store: &mut [u8], name: &[u8], file: &[u8]) -> u64
+    ensures answer { λ r. ⌜ r ≡ coded (keepAnswer (now (store .entry)) (now (name .entry)) (now (file .entry))) ⌝ }
+    ensures store { λ _. ⌜ now (store .exit) ≡ keepLeaves (now (store .entry)) (now (name .entry)) (now (file .entry)) ⌝ }
+{
+    match store_calls::keep(store, name, file) {
+        Changed::Refused(refusal) => answer::code(refusal),
+        Changed::Done => 0,
+    }
+}
+
+// Return: one value, the length of the file.
+#[no_mangle]
+pub extern "C" fn gondwize_return(
+    store: &[u8],
+    name: &[u8],
+    buffer: &mut [u8],
+    size: &mut u64,
+) -> u64
+    ensures answer { λ r. ⌜ Gives (lengthOf (returnAnswer (now (store .entry)) (now (name .entry)) (now (buffer .entry)))) (λ n. n) (now (size .entry)) r (now (size .exit)) ⌝ }
+    ensures buffer { λ _. ⌜ now (buffer .exit) ≡ returnLeaves (now (store .entry)) (now (name .entry)) (now (buffer .entry)) ⌝ }
+{
+    match store_calls::return_to(store, name, buffer) {
+        Returned::Refused(refusal) => answer::code(refusal),
+        Returned::Length(found) => {
+            *size = found as u64;
+            0
+        }
+    }
+}
+
+// Forget.
+#[no_mangle]
+pub extern "C" fn gondwize_forget(store: &mut [u8], name: &[u8]) -> u64
+    ensures answer { λ r. ⌜ r ≡ coded (forgetAnswer (now (store .entry)) (now (name .entry))) ⌝ }
+    ensures store { λ _. ⌜ now (store .exit) ≡ forgetLeaves (now (store .entry)) (now (name .entry)) ⌝ }
+{
+    match store_calls::forget(store, name) {
+        Changed::Refused(refusal) => answer::code(refusal),
+        Changed::Done => 0,
     }
 }

@@ -1,4 +1,3 @@
 pub mod Spots
 pub mod Rows
-pub mod Zeros
 pub mod Grids

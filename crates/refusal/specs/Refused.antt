@@ -5,7 +5,7 @@ use mathlib.Core.Path.{_≡_}
 use Prim.Native.Nat.{ℕ, zero, suc}
 use mathlib.Core.Bool.{Bool, true, false}
 use Rattle.refusal.specs.declared.Refusal.{Refusal}
-use Rattle.refusal.specs.declared.Refusal.the-variants.{Length, GridSize, Count, Mass, Velocity, Affine, Position, Identifier, TotalMass, Gravity, NodeMass, NodeVelocity, NewVelocity, NewAffine, NewPosition, SpareBits, Steps, Edge, Drag, PresentNode, AddedMass}
+use Rattle.refusal.specs.declared.Refusal.the-variants.{Length, GridSize, Count, Mass, Velocity, Affine, Position, Identifier, TotalMass, Gravity, NodeMass, NodeVelocity, NewVelocity, NewAffine, NewPosition, SpareBits, Steps, Edge, Drag, PresentNode, AddedMass, Name, NotHeld, FullStore}
 
 pub data Answer (A : Type 0) : Type 0 where
   result : A → Answer A
@@ -33,6 +33,9 @@ number Edge = 18
 number Drag = 19
 number (PresentNode k) = 20
 number (AddedMass k) = 21
+number Name = 22
+number NotHeld = 23
+number FullStore = 24
 
 abbrev pub place : Refusal → ℕ
 place Length = 0
@@ -56,6 +59,9 @@ place Edge = 0
 place Drag = 0
 place (PresentNode k) = k
 place (AddedMass k) = k
+place Name = 0
+place NotHeld = 0
+place FullStore = 0
 
 -- a refusal as these documents tell it
 abbrev pub refusedBy : {A : Type 0} → Refusal → Answer A
@@ -75,6 +81,10 @@ andThen (refused n k) next = refused n k
 abbrev pub either : {A B : Type 0} → Answer A → (A → B) → (ℕ → ℕ → B) → B
 either (result a) accept refuse = accept a
 either (refused n k) accept refuse = refuse n k
+
+-- it is a result
+abbrev pub accepted : {A : Type 0} → Answer A → Bool
+accepted a = either a (λ _. true) (λ n k. false)
 
 -- nothing is refused, and there is no value to tell
 abbrev pub done : Answer Unit

@@ -3,7 +3,7 @@ ghost use mathlib.Core.Path.{_≡_};
 ghost use Rattle.refusal.specs.Refused.{number, place};
 
 pub enum Refusal {
-    // 1: a slice has the wrong length
+    // 1: a slice has the wrong length, or a store another form
     Length,
     // 2: Nx or Ny is not 4 to 48
     GridSize,
@@ -45,6 +45,12 @@ pub enum Refusal {
     PresentNode(usize),
     // 21: a node's mass would pass 2^43
     AddedMass(usize),
+    // 22: a name is not 1 to 8 letters A to Z
+    Name,
+    // 23: a store does not hold the name
+    NotHeld,
+    // 24: a store holds four other names
+    FullStore,
 }
 
 // The number of a refusal in these lists.
@@ -73,6 +79,9 @@ pub fn number_of(refusal: Refusal) -> u8
         Refusal::Drag => 19,
         Refusal::PresentNode(_) => 20,
         Refusal::AddedMass(_) => 21,
+        Refusal::Name => 22,
+        Refusal::NotHeld => 23,
+        Refusal::FullStore => 24,
     }
 }
 
@@ -102,5 +111,8 @@ pub fn place_of(refusal: Refusal) -> usize
         Refusal::Drag => 0,
         Refusal::PresentNode(node) => node,
         Refusal::AddedMass(node) => node,
+        Refusal::Name => 0,
+        Refusal::NotHeld => 0,
+        Refusal::FullStore => 0,
     }
 }

@@ -29,6 +29,9 @@ macro_rules! functions {
             run: $make!(run gondwize_run),
             read_file: $make!(read_file gondwize_read_file),
             write_header: $make!(write_header gondwize_write_header),
+            keep: $make!(keep gondwize_keep),
+            return_to: $make!(return_to gondwize_return),
+            forget: $make!(forget gondwize_forget),
         }
     };
 }

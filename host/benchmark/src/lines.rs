@@ -1,11 +1,23 @@
 //! What is timed: every operation on a bath.
 
 use engine::{read_record, Edge, GridBuffers, Header, Particle, Settings};
-use engine::{HEADER_LENGTH, RECORD_LENGTH};
+use engine::{HEADER_LENGTH, MOST_FILE_LENGTH, RECORD_LENGTH, STORE_LENGTH};
 
 use crate::bath::Bath;
 use crate::library::{Library, PROVED};
 use crate::measure::Subject;
+
+/// What a store holds before each call: nothing, or four copies of the bath. It is put back outside of the
+/// time that is taken.
+#[derive(Clone, Copy, Debug, PartialEq, Eq)]
+#[allow(missing_docs)]
+pub enum Stored {
+    Nothing,
+    Four,
+}
+
+/// The names of a full store; the calls take the last.
+const NAMES: [&[u8]; 4] = [b"A", b"SECOND", b"THIRD", b"ABCDEFGH"];
 
 /// An operation, or as many calls of it as the bath has records.
 #[derive(Clone, Copy, Debug, PartialEq, Eq)]
@@ -25,6 +37,9 @@ pub enum Line {
     WriteRecords,
     Weights,
     WriteHeaders,
+    Keep(Stored),
+    Return(Stored),
+    Forget(Stored),
 }
 
 impl Line {
@@ -32,7 +47,7 @@ impl Line {
     pub const RUN: Line = Line::Run(Edge::Open, 0);
 
     /// All of them.
-    pub const ALL: [Line; 16] = [
+    pub const ALL: [Line; 22] = [
         Line::RUN,
         Line::Run(Edge::Sticky(2), 0),
         Line::Run(Edge::Open, 9),
@@ -49,6 +64,12 @@ impl Line {
         Line::WriteRecords,
         Line::Weights,
         Line::WriteHeaders,
+        Line::Keep(Stored::Nothing),
+        Line::Keep(Stored::Four),
+        Line::Return(Stored::Nothing),
+        Line::Return(Stored::Four),
+        Line::Forget(Stored::Nothing),
+        Line::Forget(Stored::Four),
     ];
 
     /// What the table calls it.
@@ -70,6 +91,28 @@ impl Line {
             Line::WriteRecords => "write a record",
             Line::Weights => "weights",
             Line::WriteHeaders => "write a header",
+            Line::Keep(Stored::Nothing) => "keep, empty store",
+            Line::Keep(Stored::Four) => "keep, full store",
+            Line::Return(Stored::Nothing) => "return, empty store (23)",
+            Line::Return(Stored::Four) => "return, full store",
+            Line::Forget(Stored::Nothing) => "forget, empty store (23)",
+            Line::Forget(Stored::Four) => "forget, full store",
+        }
+    }
+
+    /// What its store holds, if it takes one.
+    fn stored(self) -> Option<Stored> {
+        match self {
+            Line::Keep(stored) | Line::Return(stored) | Line::Forget(stored) => Some(stored),
+            _ => None,
+        }
+    }
+
+    /// What the call answers.
+    fn answer(self) -> u64 {
+        match self {
+            Line::Return(Stored::Nothing) | Line::Forget(Stored::Nothing) => 23 << 32,
+            _ => 0,
         }
     }
 }
@@ -86,6 +129,20 @@ pub struct Timed {
     momentum: [Vec<i64>; 2],
     velocity: [Vec<i64>; 2],
     grid: [Vec<i64>; 2],
+    before: Vec<u8>,
+    store: Vec<u8>,
+    buffer: Vec<u8>,
+}
+
+/// A store that holds so much of a bath file; none where the line takes none.
+fn store(stored: Option<Stored>, file: &[u8]) -> Vec<u8> {
+    let mut store = vec![0; stored.map_or(0, |_| STORE_LENGTH)];
+    if stored == Some(Stored::Four) {
+        for name in NAMES {
+            engine::keep(&mut store, name, file).expect("a place for the bath");
+        }
+    }
+    store
 }
 
 impl Timed {
@@ -105,10 +162,12 @@ impl Timed {
         let momentum = [grid.x.to_vec(), grid.y.to_vec()];
         assert_eq!(PROVED.update(bath.settings, &mut grid), 0);
         let records = bath.records.chunks_exact(RECORD_LENGTH);
+        let file = bath.file();
+        let before = store(line.stored(), &file);
         Timed {
             line,
             bath: bath.clone(),
-            file: bath.file(),
+            file,
             particles: records
                 .map(|record| read_record(record).expect("a record"))
                 .collect(),
@@ -118,6 +177,9 @@ impl Timed {
             momentum,
             velocity: [x.clone(), y.clone()],
             grid: [x, y],
+            store: before.clone(),
+            before,
+            buffer: vec![0; MOST_FILE_LENGTH],
         }
     }
 
@@ -146,6 +208,7 @@ impl Subject for Timed {
             Line::Gather | Line::Step | Line::Run(..) => {
                 self.records.copy_from_slice(&self.bath.records)
             }
+            Line::Keep(_) | Line::Forget(_) => self.store.copy_from_slice(&self.before),
             _ => {}
         }
     }
@@ -224,7 +287,10 @@ impl Subject for Timed {
                     answer | library.write_header(&header, &mut bytes)
                 })
             }
+            Line::Keep(_) => library.keep(&mut self.store, NAMES[3], &self.file),
+            Line::Return(_) => library.return_to(&self.store, NAMES[3], &mut self.buffer, &mut 0),
+            Line::Forget(_) => library.forget(&mut self.store, NAMES[3]),
         };
-        assert_eq!(answer, 0, "{}", self.line.name());
+        assert_eq!(answer, self.line.answer(), "{}", self.line.name());
     }
 }

@@ -56,15 +56,16 @@ macro_rules! agreement {
 
 agreement! {
     read_record write_record check_set totals weights scatter adding_scatter update gather step run read_file
-    write_header
+    write_header keep return_to forget
 }
 
 /// The operations whose calls have arguments of every kind, and the most of them.
-const SOME: [(&str, Make); 4] = [
+const SOME: [(&str, Make); 5] = [
     ("write_record", inputs::write_record),
     ("update", inputs::update),
     ("gather", inputs::gather),
     ("run", inputs::run),
+    ("return_to", inputs::return_to),
 ];
 
 /// The static library loaded once more answers as the one that is linked.
@@ -99,7 +100,7 @@ fn sizes_of_sets() {
     for count in [0, 1, 63, 64, 65, 127, 128, 129, 511, 512, 513, 4095, 4096] {
         let (at, bytes) = inputs::full_set(&mut stream("sizes of sets", count as u64), count);
         let grid = reference::Grid::filled(at.nodes(), 3, 2, -1);
-        let before = Buffers { bytes, grid };
+        let before = Buffers::new(bytes, grid);
         let given = reference::Settings::new(at, 1, -1);
         let hindered = given.with_edge(reference::Edge::slip(1)).with_drag(30);
         let operations = [

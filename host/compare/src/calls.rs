@@ -144,7 +144,7 @@ fn from_run(answer: engine::RunAnswer) -> RunAnswer {
 /// The answer of the engine; the buffers are left as the operation leaves them. None where the
 /// engine's types have no such numbers, and for the program.
 pub fn by_engine(operation: Operation, buffers: &mut Buffers) -> Option<Answer> {
-    let bytes = &mut buffers.bytes;
+    let (bytes, store, name) = (&mut buffers.bytes, &mut buffers.store, &buffers.name);
     let mut grid = GridBuffers {
         mass: &mut buffers.grid.mass,
         x: &mut buffers.grid.x,
@@ -181,6 +181,9 @@ pub fn by_engine(operation: Operation, buffers: &mut Buffers) -> Option<Answer> 
         Operation::WriteHeader(header) => {
             engine::write_header(&to_header(header)?, bytes).map(done)
         }
+        Operation::Keep => engine::keep(store, name, bytes).map(done),
+        Operation::Return => engine::return_to(store, name, bytes).map(Answer::Length),
+        Operation::Forget => engine::forget(store, name).map(done),
         Operation::Program => return None,
     };
     Some(answer.unwrap_or_else(|refused| Answer::Refused(refusal(refused))))
@@ -208,7 +211,7 @@ pub fn by_library(
     buffers: &mut Buffers,
     before: i64,
 ) -> Option<(u64, Vec<i64>)> {
-    let bytes = &mut buffers.bytes;
+    let (bytes, store, name) = (&mut buffers.bytes, &mut buffers.store, &buffers.name);
     let mut grid = GridBuffers {
         mass: &mut buffers.grid.mass,
         x: &mut buffers.grid.x,
@@ -242,6 +245,11 @@ pub fn by_library(
         }
         Operation::ReadFile => handed(before, |values| library.read_file(bytes, values)),
         Operation::WriteHeader(header) => none(library.write_header(&to_header(header)?, bytes)),
+        Operation::Keep => none(library.keep(store, name, bytes)),
+        Operation::Return => handed_one(before, |length| {
+            library.return_to(store, name, bytes, length)
+        }),
+        Operation::Forget => none(library.forget(store, name)),
         Operation::Program => return None,
     })
 }
@@ -259,7 +267,7 @@ fn sums(buffers: &Buffers) -> Sums {
 /// The answer of the reference; the buffers are left as the operation leaves them.
 pub fn by_reference(operation: Operation, buffers: &mut Buffers) -> Answer {
     let sums = sums(buffers);
-    let Buffers { bytes, grid } = buffers;
+    let Buffers { bytes, grid, .. } = buffers;
     let answer = match operation {
         Operation::Scatter(size) => scatter_by(sums, size, bytes, &mut grid.buffers()),
         Operation::AddingScatter(size) => adding_scatter_by(sums, size, bytes, &mut grid.buffers()),
@@ -285,6 +293,11 @@ pub fn agreed(name: &str, operation: Operation, before: &Buffers) -> Option<(Ans
     let mut expected = before.clone();
     let expected_answer = by_reference(operation, &mut expected);
     assert_eq!(answer, expected_answer, "{name}: {operation:?}");
+    assert!(
+        found.store == expected.store,
+        "{name}: stores differ after {operation:?} of {:?}",
+        before.name
+    );
     assert!(
         found == expected,
         "{name}: buffers differ after {operation:?}\nbefore: {before:?}\nengine: {found:?}\nreference: {expected:?}"

@@ -1,7 +1,8 @@
 //! Inputs of every operation: valid ones, every limit at its edge and one beyond, and damaged bytes.
 
 use reference::generator::Generator;
-use reference::limits::RECORD_LENGTH;
+use reference::limits::{HEADER_LENGTH, MAX_FILE_LENGTH, NAME_LENGTH, RECORD_LENGTH};
+use reference::limits::{STORE_LENGTH, STORE_PLACES, STORE_PLACE_LENGTH};
 use reference::particle_set::pack_records;
 use reference::transfer::scatter_by;
 use reference::{Edge, Grid, Header, Particle, Settings, Size, Sums};
@@ -237,14 +238,6 @@ fn any_grid(numbers: &mut Generator, size: Size) -> Grid {
     }
 }
 
-/// Buffers without a grid.
-fn only(bytes: Vec<u8>) -> Buffers {
-    Buffers {
-        bytes,
-        grid: Grid::zero(0),
-    }
-}
-
 /// A call: an operation with its buffers.
 pub type Call = (Operation, Buffers);
 
@@ -258,7 +251,7 @@ pub fn read_record(numbers: &mut Generator) -> Call {
     if numbers.once_in(3) {
         damage(numbers, &mut bytes);
     }
-    (Operation::ReadRecord, only(bytes))
+    (Operation::ReadRecord, Buffers::of_bytes(bytes))
 }
 
 /// Write a record.
@@ -273,25 +266,31 @@ pub fn write_record(numbers: &mut Generator) -> Call {
         _ => RECORD,
     };
     let buffer = any_bytes(numbers, length as usize);
-    (Operation::WriteRecord(given), only(buffer))
+    (Operation::WriteRecord(given), Buffers::of_bytes(buffer))
 }
 
 /// Check a set.
 pub fn check_set(numbers: &mut Generator) -> Call {
     let size = size(numbers);
-    (Operation::CheckSet(size), only(records(numbers, size)))
+    (
+        Operation::CheckSet(size),
+        Buffers::of_bytes(records(numbers, size)),
+    )
 }
 
 /// Totals.
 pub fn totals(numbers: &mut Generator) -> Call {
     let size = size(numbers);
-    (Operation::Totals(size), only(records(numbers, size)))
+    (
+        Operation::Totals(size),
+        Buffers::of_bytes(records(numbers, size)),
+    )
 }
 
 /// Weights.
 pub fn weights(numbers: &mut Generator) -> Call {
     let q = near(numbers, (-32, 31), I64);
-    (Operation::Weights(q), only(Vec::new()))
+    (Operation::Weights(q), Buffers::of_bytes(Vec::new()))
 }
 
 /// Scatter.
@@ -299,7 +298,7 @@ pub fn scatter(numbers: &mut Generator) -> Call {
     let size = size(numbers);
     let bytes = records(numbers, size);
     let grid = any_grid(numbers, size);
-    (Operation::Scatter(size), Buffers { bytes, grid })
+    (Operation::Scatter(size), Buffers::new(bytes, grid))
 }
 
 /// Fills the nodes that all buffers have; their number.
@@ -336,7 +335,7 @@ pub fn adding_scatter(numbers: &mut Generator) -> Call {
     let (Operation::Scatter(size), mut buffers) = scatter(numbers) else {
         unreachable!("a scatter");
     };
-    let Buffers { bytes, grid } = &mut buffers;
+    let Buffers { bytes, grid, .. } = &mut buffers;
     if !numbers.once_in(5) {
         let heaviest = numbers.one_of(&[0, 1 << 20, 1 << 42, 1 << 42, 1 << 43]);
         let count = fill(grid, || numbers.present_node(heaviest));
@@ -394,11 +393,7 @@ pub fn update(numbers: &mut Generator) -> Call {
             }
         }
     }
-    let buffers = Buffers {
-        bytes: Vec::new(),
-        grid,
-    };
-    (Operation::Update(settings), buffers)
+    (Operation::Update(settings), Buffers::new(Vec::new(), grid))
 }
 
 /// Node velocities up to some size, and one in eight times a node at a limit or beyond.
@@ -444,7 +439,7 @@ pub fn gather(numbers: &mut Generator) -> Call {
         x: axis(),
         y: axis(),
     };
-    (Operation::Gather(size), Buffers { bytes, grid })
+    (Operation::Gather(size), Buffers::new(bytes, grid))
 }
 
 /// Step.
@@ -453,7 +448,7 @@ pub fn step(numbers: &mut Generator) -> Call {
     let settings = settings(numbers, size);
     let bytes = records(numbers, size);
     let grid = any_grid(numbers, size);
-    (Operation::Step(settings), Buffers { bytes, grid })
+    (Operation::Step(settings), Buffers::new(bytes, grid))
 }
 
 /// Whether edges or drag can keep particles from leaving: a long run then takes all of its steps.
@@ -552,7 +547,7 @@ pub fn read_file(numbers: &mut Generator) -> Call {
         3 => file.truncate(numbers.between(0, 12) as usize),
         _ => {}
     }
-    (Operation::ReadFile, only(file))
+    (Operation::ReadFile, Buffers::of_bytes(file))
 }
 
 /// Settings that a file holds, mostly with gravity weak enough for some steps, and with open edges or
@@ -661,7 +656,197 @@ pub fn write_header(numbers: &mut Generator) -> Call {
     let header = header(numbers, size, count, wide);
     let length = numbers.one_of(&[11, 11, 11, 11, 11, 11, 11, 11, 0, 9, 10, 12, 14]);
     let buffer = any_bytes(numbers, length as usize);
-    (Operation::WriteHeader(header), only(buffer))
+    (Operation::WriteHeader(header), Buffers::of_bytes(buffer))
+}
+
+/// A name: one of few, and one in six times none.
+pub fn name(numbers: &mut Generator) -> Vec<u8> {
+    const NAMES: [&[u8]; 7] = [
+        b"A",
+        b"AB",
+        b"ABCDEFGH",
+        b"ABCDEFG",
+        b"B",
+        b"ZZZZZZZZ",
+        b"Z",
+    ];
+    let mut name = NAMES[place(numbers, NAMES.len())].to_vec();
+    match numbers.between(0, 23) {
+        0 => name.clear(),
+        1 => name.resize(numbers.between(9, 40) as usize, b'A'),
+        2 | 3 => {
+            let at = place(numbers, name.len());
+            name[at] = numbers.one_of(&[0, b'@' as i128, b'[' as i128, b'a' as i128, 0xC1]) as u8;
+        }
+        4 => name.push(0),
+        _ => {}
+    }
+    name
+}
+
+/// A bath file that is accepted: mostly small, at times of as many records as one can have.
+pub fn accepted_file(numbers: &mut Generator) -> Vec<u8> {
+    let (size, records) = if numbers.once_in(200) {
+        let count = numbers.one_of(&[4_095, 4_096]);
+        full_set(numbers, count as usize)
+    } else {
+        accepted(numbers)
+    };
+    let steps = numbers.one_of(&[0, 1, 9, 10_000]);
+    file_of(file_settings(numbers, size), steps, &records)
+}
+
+/// A bath file to keep, one in five refused.
+pub fn file_to_keep(numbers: &mut Generator) -> Vec<u8> {
+    if numbers.once_in(3) {
+        read_file(numbers).1.bytes
+    } else {
+        accepted_file(numbers)
+    }
+}
+
+/// The bytes of a place of a store.
+fn place_of(store: &mut [u8], number: usize) -> &mut [u8] {
+    &mut store[number * STORE_PLACE_LENGTH..][..STORE_PLACE_LENGTH]
+}
+
+/// The bytes of a place that holds a name and a file.
+fn fill_place(place: &mut [u8], name: &[u8], file: &[u8]) {
+    place.fill(0);
+    place[..name.len()].copy_from_slice(name);
+    place[NAME_LENGTH..][..file.len()].copy_from_slice(file);
+}
+
+/// A store of the form: no name, some or four, in any places.
+pub fn well_formed(numbers: &mut Generator) -> Vec<u8> {
+    let mut store = vec![0; STORE_LENGTH];
+    let free = numbers.one_of(&[1, 2, 2, 5]);
+    let mut held: Vec<Vec<u8>> = vec![Vec::new()];
+    for number in 0..STORE_PLACES {
+        if free > 1 && numbers.once_in(free) {
+            continue;
+        }
+        let mut name = Vec::new();
+        while held.contains(&name) || name.len() > NAME_LENGTH {
+            name = self::name(numbers);
+            name.retain(u8::is_ascii_uppercase);
+        }
+        fill_place(place_of(&mut store, number), &name, &accepted_file(numbers));
+        held.push(name);
+    }
+    store
+}
+
+/// The kinds of [`damage_store`].
+pub const STORE_DAMAGES: i128 = 9;
+
+/// Breaks one thing of a store of the form, by one of [`STORE_DAMAGES`] kinds, if it can be.
+pub fn damage_store(numbers: &mut Generator, store: &mut Vec<u8>, kind: i128) {
+    let number = place(numbers, STORE_PLACES);
+    let other = (number + 1 + place(numbers, STORE_PLACES - 1)) % STORE_PLACES;
+    let copied = place_of(store, other).to_vec();
+    let at = place_of(store, number);
+    let end = at
+        .iter()
+        .rposition(|&byte| byte != 0)
+        .map_or(0, |last| last + 1);
+    match kind {
+        // Its length.
+        0 => {
+            let end = STORE_LENGTH as i128;
+            let lengths = [0, 1, end - 1, end + 1, STORE_PLACE_LENGTH as i128, 2 * end];
+            store.resize(numbers.one_of(&lengths) as usize, 0);
+        }
+        // A byte of the name, of the file, after it, and anywhere.
+        1 => at[place(numbers, NAME_LENGTH)] ^= 1 << numbers.between(0, 7),
+        2 if end > NAME_LENGTH => {
+            let byte = NAME_LENGTH + place(numbers, end - NAME_LENGTH);
+            at[byte] ^= 1 << numbers.between(0, 7);
+        }
+        3 if end < STORE_PLACE_LENGTH => {
+            let byte = numbers.one_of(&[end as i128, STORE_PLACE_LENGTH as i128 - 1]) as usize;
+            at[byte] = numbers.between(1, 255) as u8;
+        }
+        4 => at[place(numbers, STORE_PLACE_LENGTH)] ^= 1 << numbers.between(0, 7),
+        // A name that is none, a name alone, a file alone, a file that may be refused, a name twice.
+        5 => {
+            let name = name(numbers);
+            at[..NAME_LENGTH].fill(0);
+            at[..name.len().min(NAME_LENGTH)].copy_from_slice(&name[..name.len().min(NAME_LENGTH)]);
+        }
+        6 => at[NAME_LENGTH..].fill(0),
+        7 => {
+            let file = read_file(numbers).1.bytes;
+            fill_place(at, b"NAME", &file[..file.len().min(MAX_FILE_LENGTH)]);
+        }
+        _ => at.copy_from_slice(&copied),
+    }
+}
+
+/// A store, mostly of the form.
+fn any_store(numbers: &mut Generator) -> Vec<u8> {
+    let mut store = well_formed(numbers);
+    if numbers.once_in(8) {
+        let kind = numbers.between(0, STORE_DAMAGES - 1);
+        damage_store(numbers, &mut store, kind);
+    }
+    store
+}
+
+/// Keep.
+pub fn keep(numbers: &mut Generator) -> Call {
+    keep_in(numbers, any_store)
+}
+
+/// A keep in a store that is made so.
+pub fn keep_in(numbers: &mut Generator, store: impl FnOnce(&mut Generator) -> Vec<u8>) -> Call {
+    let (name, file) = (name(numbers), file_to_keep(numbers));
+    let store = store(numbers);
+    (Operation::Keep, Buffers::of_store(store, &name, file))
+}
+
+/// Return.
+pub fn return_to(numbers: &mut Generator) -> Call {
+    return_from(numbers, any_store)
+}
+
+/// A return from a store that is made so, into a buffer of any bytes, one in eight too short.
+pub fn return_from(numbers: &mut Generator, store: impl FnOnce(&mut Generator) -> Vec<u8>) -> Call {
+    let most = MAX_FILE_LENGTH as i128;
+    let length = match numbers.between(0, 15) {
+        0 => most - 1,
+        1 => numbers.one_of(&[0, HEADER_LENGTH as i128, most / 2]),
+        2 => most + numbers.between(1, 99),
+        _ => most,
+    };
+    let pattern = any_bytes(numbers, 61);
+    let buffer = pattern.into_iter().cycle().take(length as usize).collect();
+    let (name, store) = (name(numbers), store(numbers));
+    (Operation::Return, Buffers::of_store(store, &name, buffer))
+}
+
+/// Forget.
+pub fn forget(numbers: &mut Generator) -> Call {
+    forget_in(numbers, any_store)
+}
+
+/// A forget in a store that is made so.
+pub fn forget_in(numbers: &mut Generator, store: impl FnOnce(&mut Generator) -> Vec<u8>) -> Call {
+    let (name, store) = (name(numbers), store(numbers));
+    (
+        Operation::Forget,
+        Buffers::of_store(store, &name, Vec::new()),
+    )
+}
+
+/// A call on this store: as many keeps as returns and forgets together.
+pub fn store_call(numbers: &mut Generator, store: &[u8]) -> Call {
+    let given = |_: &mut Generator| store.to_vec();
+    match numbers.between(0, 5) {
+        0..=2 => keep_in(numbers, given),
+        3 | 4 => return_from(numbers, given),
+        _ => forget_in(numbers, given),
+    }
 }
 
 /// An accepted set as its records, for lists of calls.
@@ -688,7 +873,7 @@ pub fn list_call(numbers: &mut Generator, size: Size, records: &[u8]) -> Call {
     };
     let bytes = records.to_vec();
     let grid = any_grid(numbers, given);
-    (operation, Buffers { bytes, grid })
+    (operation, Buffers::new(bytes, grid))
 }
 
 /// A grid that a set can be added to, for lists of additions: with nothing, with something, or almost
@@ -705,7 +890,7 @@ pub fn present(numbers: &mut Generator) -> (Size, Grid) {
 pub fn addition(numbers: &mut Generator, size: Size, grid: &Grid) -> Call {
     let bytes = records(numbers, size);
     let grid = grid.clone();
-    (Operation::AddingScatter(size), Buffers { bytes, grid })
+    (Operation::AddingScatter(size), Buffers::new(bytes, grid))
 }
 
 /// A set of as many records as wanted on the largest grid, the total mass at its limit.

@@ -4,6 +4,7 @@
 //! | --- | --- |
 //! | [`calls`] | a call by the engine and by the reference, and whether they agree |
 //! | [`inputs`] | inputs of every operation, valid and damaged, from a seeded stream |
+//! | [`steps`] | the completed steps of calls, and what demand 3 keeps over them |
 //!
 //! Two environment variables set what the tests do: `COMPARE_SEED`, the seed, and `COMPARE_COUNT`,
 //! the number of inputs for each operation; other tests take a part of it, such as flows a quarter, and the
@@ -14,6 +15,7 @@
 
 pub mod calls;
 pub mod inputs;
+pub mod steps;
 
 use reference::generator::Generator;
 

@@ -25,17 +25,14 @@ fn vectors() {
         assert!(after == case.after, "{}: buffers differ", case.name);
         compared += 1;
     }
-    assert!(compared > 1_800, "only {compared} vectors");
+    assert!(compared > 2_000, "only {compared} vectors");
 }
 
 #[test]
 fn offsets() {
     let ends = [i64::MIN, i64::MIN + 1, i64::MAX - 1, i64::MAX];
     for q in (-1_000..=1_000).chain(ends) {
-        let buffers = Buffers {
-            bytes: Vec::new(),
-            grid: Grid::zero(0),
-        };
+        let buffers = Buffers::of_bytes(Vec::new());
         agreed("offset", Operation::Weights(q.into()), &buffers).expect("a call");
     }
 }
@@ -68,10 +65,7 @@ fn wide<T: Copy>(
 
 /// A buffer of so many bytes to write to.
 fn bytes(length: usize) -> Buffers {
-    Buffers {
-        bytes: vec![0xA5; length],
-        grid: Grid::zero(0),
-    }
+    Buffers::of_bytes(vec![0xA5; length])
 }
 
 #[test]
@@ -154,10 +148,10 @@ fn wide_numbers_of_settings() {
         (USIZE, 2, |s, n| s.edge.width = n),
         (USIZE, 5, |s, n| s.drag = n),
     ];
-    let before = Buffers {
-        bytes: Particle::at_rest(7, 2, 90, 70).pack().to_vec(),
-        grid: Grid::filled(20, 5, 300, -200),
-    };
+    let before = Buffers::new(
+        Particle::at_rest(7, 2, 90, 70).pack().to_vec(),
+        Grid::filled(20, 5, 300, -200),
+    );
     for field in fields {
         wide(field, forced(), &before, Operation::Update);
         wide(field, forced(), &before, Operation::Step);
@@ -170,10 +164,7 @@ fn wide_numbers_of_settings() {
 fn wide_open_edges() {
     for width in (0..64).map(|bit| 1 << bit) {
         let settings = forced().with_edge(Edge::new(0, width));
-        let before = Buffers {
-            bytes: Vec::new(),
-            grid: Grid::zero(20),
-        };
+        let before = Buffers::new(Vec::new(), Grid::zero(20));
         for operation in [
             Operation::Update(settings),
             Operation::Step(settings),
@@ -216,10 +207,7 @@ fn edges_by_their_numbers() {
 
 /// The program's text, by the engine.
 fn text(file: &[u8]) -> String {
-    let mut buffers = Buffers {
-        bytes: file.to_vec(),
-        grid: Grid::zero(0),
-    };
+    let mut buffers = Buffers::of_bytes(file.to_vec());
     let settings = match by_engine(Operation::ReadFile, &mut buffers) {
         Some(Answer::Header(header)) => header,
         Some(Answer::Refused(refusal)) => {
@@ -264,7 +252,7 @@ fn full_sets() {
         for records in [4_095, 4_096, 4_097] {
             let (size, bytes) = inputs::full_set(&mut numbers, records);
             let grid = Grid::filled(2304, 5, 300, -200);
-            let before = Buffers { bytes, grid };
+            let before = Buffers::new(bytes, grid);
             let settings = Settings::new(size, 1, -4096);
             for operation in [
                 Operation::CheckSet(size),

@@ -96,3 +96,19 @@ fn write_header() {
     let refusals = [1, 2, 3, 10, 17, 18, 19];
     compare("write a header", inputs::write_header, &refusals);
 }
+
+#[test]
+fn keep() {
+    let refusals = [1, 2, 3, 4, 5, 6, 7, 8, 9, 10, 16, 17, 18, 22, 24];
+    compare("keep", inputs::keep, &refusals);
+}
+
+#[test]
+fn return_to() {
+    compare("return", inputs::return_to, &[1, 22, 23]);
+}
+
+#[test]
+fn forget() {
+    compare("forget", inputs::forget, &[1, 22, 23]);
+}

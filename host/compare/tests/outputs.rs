@@ -15,7 +15,7 @@ const BEFORE: i64 = i64::MIN;
 fn values(answer: Answer) -> Option<Vec<i128>> {
     match answer {
         Answer::Particle(particle) => Some(particle.fields().to_vec()),
-        Answer::Count(count) => Some(vec![count as i128]),
+        Answer::Count(number) | Answer::Length(number) => Some(vec![number as i128]),
         Answer::Totals(totals) => Some(totals.values().to_vec()),
         Answer::Weights(row) => Some(row.to_vec()),
         Answer::Ran(answer) => Some(vec![answer.completed as i128]),
@@ -55,4 +55,5 @@ fn arrays() {
 fn one_value() {
     compare("count of a set", inputs::check_set);
     compare("steps of a run", inputs::run);
+    compare("length of a return", inputs::return_to);
 }

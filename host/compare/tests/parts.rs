@@ -13,7 +13,7 @@ use vectors::{Answer, Buffers, Operation};
 /// The grid that an accepted call of the engine leaves.
 fn left(name: &str, operation: Operation, bytes: &[u8], grid: Grid) -> Grid {
     let bytes = bytes.to_vec();
-    let called = agreed(name, operation, &Buffers { bytes, grid });
+    let called = agreed(name, operation, &Buffers::new(bytes, grid));
     let (answer, after) = called.expect("a call of the engine");
     assert_eq!(answer, Answer::Done, "{name}");
     after.grid

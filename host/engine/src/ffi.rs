@@ -156,4 +156,30 @@ unsafe extern "C" {
         bytes: *mut u8,
         bytes_length: usize,
     ) -> u64;
+
+    pub fn gondwize_keep(
+        store: *mut u8,
+        store_length: usize,
+        name: *const u8,
+        name_length: usize,
+        file: *const u8,
+        file_length: usize,
+    ) -> u64;
+
+    pub fn gondwize_return(
+        store: *const u8,
+        store_length: usize,
+        name: *const u8,
+        name_length: usize,
+        buffer: *mut u8,
+        buffer_length: usize,
+        length: *mut u64,
+    ) -> u64;
+
+    pub fn gondwize_forget(
+        store: *mut u8,
+        store_length: usize,
+        name: *const u8,
+        name_length: usize,
+    ) -> u64;
 }

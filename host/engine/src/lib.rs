@@ -32,6 +32,7 @@
 //! | particle-to-grid transfer onto what a grid holds | [`adding_scatter`] |
 //! | step, run | [`step`], [`run`] |
 //! | read a file, write its header | [`read_file`], [`write_header`] |
+//! | keep a bath under a name, return to it, forget it | [`keep`], [`return_to`], [`forget`] |
 //!
 //! [`affine_flow`] says whether a bath file is a flow that a step gives back exactly. It is written in Rust,
 //! over [`read_file`] and [`read_record`], and not proved.
@@ -59,6 +60,21 @@ pub const RECORD_LENGTH: usize = 15;
 
 /// Length of a bath file's header in bytes.
 pub const HEADER_LENGTH: usize = 11;
+
+/// Length of the longest bath file in bytes, of 4,096 records; no shorter buffer is returned into.
+pub const MOST_FILE_LENGTH: usize = HEADER_LENGTH + RECORD_LENGTH * 4096;
+
+/// Most letters of a name, and its length in a store in bytes.
+pub const NAME_LENGTH: usize = 8;
+
+/// Number of places of a store, each for one bath.
+pub const STORE_PLACES: usize = 4;
+
+/// Length of a place of a store in bytes: a name and the longest bath file.
+pub const STORE_PLACE_LENGTH: usize = NAME_LENGTH + MOST_FILE_LENGTH;
+
+/// Length of a store in bytes.
+pub const STORE_LENGTH: usize = STORE_PLACES * STORE_PLACE_LENGTH;
 
 /// One particle. Numbers are as wide as those of the C functions, so that nothing is cut on the way in:
 /// a number that the record's field does not hold is refused.
@@ -603,4 +619,57 @@ pub fn read_file(bytes: &[u8]) -> Result<Header, Refusal> {
 /// 1 length not 11; 2; 10; 18; 19; 3; 17.
 pub fn write_header(header: &Header, bytes: &mut [u8]) -> Result<(), Refusal> {
     Refusal::check(PROVED.write_header(header, bytes))
+}
+
+/// Keeps a bath file in a store under a name, in place of the one that is kept under it.
+///
+/// A name is 1 to 8 letters A to Z. A store is [`STORE_LENGTH`] bytes, all zero where it is empty:
+/// [`STORE_PLACES`] places one after the other, each free and zero, or with a name, zeros after it to
+/// [`NAME_LENGTH`] bytes, a file that [`read_file`] accepts, and zeros to the place's end. No name stands
+/// in two places. A call on such a store leaves it so. A name that is not held yet takes the lowest place
+/// that is free; the baths under other names stay as they are.
+///
+/// ```
+/// use engine::{forget, keep, return_to, Limit, MOST_FILE_LENGTH, STORE_LENGTH};
+///
+/// let start = [0x20, 0x60, 0x03, 0x3F, 0x00, 0x00, 0x00, 0x01, 0x40, 0x60, 0x90];
+/// let mut store = vec![0; STORE_LENGTH];
+/// keep(&mut store, b"START", &start)?;
+///
+/// let mut buffer = vec![0; MOST_FILE_LENGTH];
+/// let length = return_to(&store, b"START", &mut buffer)?;
+/// assert_eq!(buffer[..length], start);
+///
+/// forget(&mut store, b"START")?;
+/// let refusal = return_to(&store, b"START", &mut buffer).expect_err("a name that was forgotten");
+/// assert_eq!(refusal.limit, Limit::NotHeld);
+/// # Ok::<(), engine::Refusal>(())
+/// ```
+///
+/// # Errors
+///
+/// 1 a store of another length or form; 22; as [`read_file`]; 24 where four other names are held.
+pub fn keep(store: &mut [u8], name: &[u8], file: &[u8]) -> Result<(), Refusal> {
+    Refusal::check(PROVED.keep(store, name, file))
+}
+
+/// Returns to the bath that is kept under a name: its file stands at the front of the buffer, whose rest
+/// stays as it is, and its length is the result.
+///
+/// # Errors
+///
+/// 1 a store of another length or form; 1 a buffer shorter than [`MOST_FILE_LENGTH`]; 22; 23.
+pub fn return_to(store: &[u8], name: &[u8], buffer: &mut [u8]) -> Result<usize, Refusal> {
+    let mut length = 0;
+    Refusal::check(PROVED.return_to(store, name, buffer, &mut length))?;
+    Ok(length as usize)
+}
+
+/// Forgets the bath that is kept under a name: its place is free, every byte of it zero.
+///
+/// # Errors
+///
+/// 1 a store of another length or form; 22; 23.
+pub fn forget(store: &mut [u8], name: &[u8]) -> Result<(), Refusal> {
+    Refusal::check(PROVED.forget(store, name))
 }

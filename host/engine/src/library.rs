@@ -125,6 +125,10 @@ pub struct Functions {
         BytesOut,
         usize,
     ) -> u64,
+    pub keep: unsafe extern "C" fn(BytesOut, usize, Bytes, usize, Bytes, usize) -> u64,
+    pub return_to:
+        unsafe extern "C" fn(Bytes, usize, Bytes, usize, BytesOut, usize, *mut u64) -> u64,
+    pub forget: unsafe extern "C" fn(BytesOut, usize, Bytes, usize) -> u64,
 }
 
 /// A library whose functions may be called on any slices.
@@ -149,6 +153,9 @@ pub const PROVED: Library = {
         run: ffi::gondwize_run,
         read_file: ffi::gondwize_read_file,
         write_header: ffi::gondwize_write_header,
+        keep: ffi::gondwize_keep,
+        return_to: ffi::gondwize_return,
+        forget: ffi::gondwize_forget,
     };
     // SAFETY: `include/gondwize.h` promises it of each function.
     unsafe { Library::new(functions) }
@@ -395,6 +402,45 @@ impl Library {
                 bytes.as_mut_ptr(),
                 bytes.len(),
             )
+        }
+    }
+
+    /// Keep.
+    #[must_use]
+    pub fn keep(&self, store: &mut [u8], name: &[u8], file: &[u8]) -> u64 {
+        unsafe {
+            (self.functions.keep)(
+                store.as_mut_ptr(),
+                store.len(),
+                name.as_ptr(),
+                name.len(),
+                file.as_ptr(),
+                file.len(),
+            )
+        }
+    }
+
+    /// Return: the length of the file.
+    #[must_use]
+    pub fn return_to(&self, store: &[u8], name: &[u8], buffer: &mut [u8], length: &mut u64) -> u64 {
+        unsafe {
+            (self.functions.return_to)(
+                store.as_ptr(),
+                store.len(),
+                name.as_ptr(),
+                name.len(),
+                buffer.as_mut_ptr(),
+                buffer.len(),
+                length,
+            )
+        }
+    }
+
+    /// Forget.
+    #[must_use]
+    pub fn forget(&self, store: &mut [u8], name: &[u8]) -> u64 {
+        unsafe {
+            (self.functions.forget)(store.as_mut_ptr(), store.len(), name.as_ptr(), name.len())
         }
     }
 }

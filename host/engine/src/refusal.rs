@@ -29,7 +29,7 @@ macro_rules! limits {
 }
 
 limits! {
-    1 Length "a record, a set, a grid buffer or a file has the wrong length",
+    1 Length "a record, set, grid, file, buffer or store has the wrong length, or a store the wrong form",
     2 GridSize "nx or ny is not 4 to 48",
     3 Count "the count is above 4096",
     4 Mass "a mass is not 1 to 1023",
@@ -50,10 +50,13 @@ limits! {
     19 Drag "drag is above 255",
     20 PresentNode "a present node's mass is above 2^43, or its momentum beyond 457536 times its mass",
     21 AddedMass "a node's mass would pass 2^43",
+    22 Name "a name is not 1 to 8 letters A to Z",
+    23 NotHeld "the name is not held",
+    24 FullStore "four other names are held",
 }
 
 impl Limit {
-    /// The limit's number, 1 to 21.
+    /// The limit's number, 1 to 24.
     #[must_use]
     pub fn number(self) -> u32 {
         self as u32

@@ -2,7 +2,9 @@
 
 use engine::RECORD_LENGTH;
 use engine::{adding_scatter, check_set, gather, read_record, run, scatter, step, totals, update};
-use engine::{write_record, Edge, GridBuffers, Limit, Particle, Refusal, Settings, Size};
+use engine::{keep, return_to, write_header, write_record};
+use engine::{Edge, GridBuffers, Header, Limit, Particle, Refusal, Settings, Size};
+use engine::{HEADER_LENGTH, MOST_FILE_LENGTH, STORE_LENGTH};
 
 const SIZE: Size = Size { nx: 8, ny: 9 };
 const NODES: usize = 8 * 9;
@@ -85,6 +87,26 @@ fn every_number() {
     }
 }
 
+/// The records of a file that is kept and returned to.
+fn returned(records: &[u8]) -> Vec<u8> {
+    let header = Header {
+        size: SIZE,
+        gx: 0,
+        gy: 3,
+        count: PARTICLES.len(),
+        steps: 9,
+        edge: Edge::Open,
+        drag: 0,
+    };
+    let mut file = vec![0; HEADER_LENGTH];
+    write_header(&header, &mut file).expect("a header in range");
+    file.extend(records);
+    let (mut store, mut buffer) = (vec![0; STORE_LENGTH], vec![0; MOST_FILE_LENGTH]);
+    keep(&mut store, b"MARKS", &file).expect("a place that is free");
+    let length = return_to(&store, b"MARKS", &mut buffer).expect("a name that is held");
+    buffer[HEADER_LENGTH..length].to_vec()
+}
+
 #[test]
 fn left_by_every_call() {
     let mut records = records();
@@ -107,6 +129,7 @@ fn left_by_every_call() {
     let answer = run(OPEN, 12, &mut records, grid);
     assert_eq!((answer.completed, answer.refusal), (12, None));
     kept(&records);
+    kept(&returned(&records));
 
     let before = records;
     let drag = Settings { drag: 256, ..OPEN };

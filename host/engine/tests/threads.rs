@@ -3,11 +3,11 @@
 use std::thread;
 
 use engine::{
-    adding_scatter, check_set, gather, read_file, run, scatter, step, totals, update, write_header,
-    write_record,
+    adding_scatter, check_set, forget, gather, keep, read_file, return_to, run, scatter, step,
+    totals, update, write_header, write_record,
 };
 use engine::{Edge, GridBuffers, Header, Limit, Particle, Refusal, Settings, Size};
-use engine::{HEADER_LENGTH, RECORD_LENGTH};
+use engine::{HEADER_LENGTH, MOST_FILE_LENGTH, RECORD_LENGTH, STORE_LENGTH};
 
 /// Calls on a thread with so many kB of stack.
 fn with_stack<T: Send>(kilobytes: usize, calls: impl FnOnce() -> T + Send) -> T {
@@ -188,5 +188,29 @@ fn added_sets() {
     for count in [0, 1, 64, 512, 4096] {
         let mut bath = Bath::new(count);
         assert_eq!(with_stack(128, || bath.additions()), Ok(()), "{count}");
+    }
+}
+
+/// A store's baths stay in memory that is lent: four of each size are kept, returned to, replaced and
+/// forgotten.
+#[test]
+fn stores() {
+    let names: [&[u8]; 4] = [b"A", b"SECOND", b"ABCDEFGH", b"ABC"];
+    for count in [0, 1, 64, 512, 4096] {
+        let file = Bath::new(count).file();
+        let (mut store, mut buffer) = (vec![0; STORE_LENGTH], vec![0; MOST_FILE_LENGTH]);
+        let calls = || {
+            for name in names {
+                keep(&mut store, name, &file)?;
+            }
+            for name in names {
+                assert_eq!(return_to(&store, name, &mut buffer), Ok(file.len()));
+                keep(&mut store, name, &file)?;
+            }
+            let full = keep(&mut store, b"FIFTH", &file).map_err(|refusal| refusal.limit);
+            assert_eq!(full, Err(Limit::FullStore));
+            names.iter().try_for_each(|name| forget(&mut store, name))
+        };
+        assert_eq!(with_stack(64, calls), Ok(()), "{count}");
     }
 }

@@ -77,4 +77,10 @@ exports! {
     read_file(; bytes bytes_length: read u8; values: [i64; 9]);
     /// Write a header.
     write_header(nx: usize, ny: usize, gx: i64, gy: i64, count: usize, steps: usize, kind: usize, width: usize, drag: usize; bytes bytes_length: write u8);
+    /// Keep.
+    keep(; store store_length: write u8, name name_length: read u8, file file_length: read u8);
+    /// Return.
+    return_to(; store store_length: read u8, name name_length: read u8, buffer buffer_length: write u8; length: u64);
+    /// Forget.
+    forget(; store store_length: write u8, name name_length: read u8);
 }

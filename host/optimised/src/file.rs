@@ -8,6 +8,9 @@ use crate::{answer, refused};
 /// Length of a header in bytes.
 const HEADER_LENGTH: usize = 11;
 
+/// Length of the longest file.
+pub const MOST_LENGTH: usize = HEADER_LENGTH + RECORD_LENGTH * MOST;
+
 const MOST_STEPS: usize = 10_000;
 
 /// The spare bits of the second word, after the steps and at the end.
@@ -25,12 +28,23 @@ fn check_values(settings: &Settings, count: usize, steps: usize) -> Result<(), u
     Ok(())
 }
 
-fn found(bytes: &[u8]) -> Result<[i64; 9], u64> {
+/// The words of a header.
+fn words(header: &[u8; HEADER_LENGTH]) -> [u64; 2] {
+    [header.first_chunk(), header.last_chunk()]
+        .map(|word| u64::from_be_bytes(*word.expect("8 bytes of 11")))
+}
+
+/// The count in a header's second word.
+fn count_in(second: u64) -> usize {
+    (second >> 35 & 8191) as usize
+}
+
+/// The values of an accepted file.
+pub fn found(bytes: &[u8]) -> Result<[i64; 9], u64> {
     let Some((header, records)) = bytes.split_first_chunk::<HEADER_LENGTH>() else {
         return Err(refused(1, 0));
     };
-    let [first, second] = [header.first_chunk(), header.last_chunk()]
-        .map(|word| u64::from_be_bytes(*word.expect("8 bytes of 11")));
+    let [first, second] = words(header);
     let settings = Settings {
         nx: (first >> 58) as usize,
         ny: (first >> 52 & 63) as usize,
@@ -40,7 +54,7 @@ fn found(bytes: &[u8]) -> Result<[i64; 9], u64> {
         width: (second >> 12 & 3) as usize,
         drag: (second >> 4 & 255) as usize,
     };
-    let [count, steps] = [second >> 35 & 8191, second >> 21 & 16_383].map(|n| n as usize);
+    let (count, steps) = (count_in(second), (second >> 21 & 16_383) as usize);
     check_values(&settings, count, steps)?;
     if second & SPARE != 0 {
         return Err(refused(16, 0));
@@ -61,6 +75,14 @@ fn found(bytes: &[u8]) -> Result<[i64; 9], u64> {
     let [nx, ny, count, steps, kind, width, drag] =
         [nx, ny, count, steps, kind, width, drag].map(|n| n as i64);
     Ok([nx, ny, gx, gy, count, steps, kind, width, drag])
+}
+
+/// The length of the file at the front of these bytes, if it is accepted.
+pub fn front(bytes: &[u8; MOST_LENGTH]) -> Option<usize> {
+    let [_, second] = words(bytes.first_chunk()?);
+    let length = HEADER_LENGTH + RECORD_LENGTH * count_in(second);
+    found(bytes.get(..length)?).ok()?;
+    Some(length)
 }
 
 /// Read a file: nine values.

@@ -1,5 +1,5 @@
-//! Document 01 with document 02's Papers 1 to 6 in Rust, written for speed: what the proved engine is
-//! measured against.
+//! Document 01 with document 02's Papers 1 to 6 and 8 in Rust, written for speed: what the proved engine
+//! is measured against.
 //!
 //! The functions take what those of `include/gondwize.h` take, in the same order, a slice for each
 //! pointer with its length, and answer the same numbers. Records are unpacked once per call, as two
@@ -16,6 +16,7 @@ mod set;
 mod settings;
 mod simulation;
 mod spline;
+mod store;
 mod transfer;
 mod update;
 
@@ -24,6 +25,7 @@ pub use particle::{read_record, write_record};
 pub use set::{check_set, totals};
 pub use simulation::{run, step};
 pub use spline::weights;
+pub use store::{forget, keep, return_to};
 pub use transfer::{adding_scatter, gather, scatter};
 pub use update::update;
 

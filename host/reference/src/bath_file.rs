@@ -94,6 +94,17 @@ pub fn pack_file(settings: Settings, steps: i128, particles: &[Particle]) -> Vec
     file
 }
 
+/// The length of a file of so many records.
+fn file_length(count: i128) -> usize {
+    HEADER_LENGTH + RECORD_LENGTH * count as usize
+}
+
+/// The length of a file with this header.
+pub(crate) fn told_length(header: &[u8; HEADER_LENGTH]) -> usize {
+    let [_, _, _, _, count, ..] = unpack(&LAYOUT, header);
+    file_length(count)
+}
+
 /// Reads a file: the header's values. Refused: 1 shorter than 11; 2; 10; 18; 3; 17; 16 for either
 /// spare field; 1 length not 11 + 15·count; then the set.
 pub fn read_file(file: &[u8]) -> Result<Header, Refusal> {
@@ -103,8 +114,7 @@ pub fn read_file(file: &[u8]) -> Result<Header, Refusal> {
     let header = Header::of([nx, ny, gx, gy, count, steps, kind, width, drag]);
     header.check()?;
     require([first, last] == [0, 0], SPARE, 0)?;
-    let length = HEADER_LENGTH + RECORD_LENGTH * count as usize;
-    require(file.len() == length, LENGTH, 0)?;
+    require(file.len() == file_length(count), LENGTH, 0)?;
     walk(header.settings.size, file, HEADER_LENGTH)?;
     Ok(header)
 }

@@ -1,5 +1,5 @@
 //! Two-dimensional APIC with the quadratic B-spline in whole numbers: the whole of document 01 with
-//! document 02's Papers 1 and 3 to 6, written from the documents, as literal sums over all particles
+//! document 02's Papers 1, 3 to 6 and 8, written from the documents, as literal sums over all particles
 //! and all nodes.
 //!
 //! | module | operations |
@@ -11,6 +11,7 @@
 //! | [`edge`] | the rim that an update gives to the nodes of the band |
 //! | [`simulation`] | step, run |
 //! | [`bath_file`] | read a file, write a header |
+//! | [`store`] | keep, return to and forget a bath |
 //! | [`report`] | the program's text |
 //! | [`conservation`] | what demand 3 keeps, its sums and allowances |
 //! | [`generator`] | seeded numbers for samples and tests |
@@ -35,6 +36,7 @@ pub mod report;
 pub mod rounding;
 pub mod simulation;
 pub mod spline;
+pub mod store;
 pub mod transfer;
 
 pub use bath_file::{read_file, write_header, Header};
@@ -46,4 +48,5 @@ pub use refusal::Refusal;
 pub use report::program;
 pub use simulation::{run, step, RunAnswer};
 pub use spline::weights;
+pub use store::{forget, keep, return_to, Store};
 pub use transfer::{adding_scatter, gather, scatter, update, Sums};

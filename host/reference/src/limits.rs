@@ -21,6 +21,17 @@ pub const HEADER_LENGTH: usize = 11;
 pub const MAX_RECORDS: i128 = 4096;
 /// Most bytes of a set.
 pub const MAX_SET_LENGTH: usize = 61_440;
+/// Most bytes of a bath file.
+pub const MAX_FILE_LENGTH: usize = HEADER_LENGTH + MAX_SET_LENGTH;
+
+/// Bytes of a name in a store, and most letters of one.
+pub const NAME_LENGTH: usize = 8;
+/// Places of a store.
+pub const STORE_PLACES: usize = 4;
+/// Bytes of a place of a store: a name, and room for the longest file.
+pub const STORE_PLACE_LENGTH: usize = NAME_LENGTH + MAX_FILE_LENGTH;
+/// Bytes of a store.
+pub const STORE_LENGTH: usize = STORE_PLACES * STORE_PLACE_LENGTH;
 
 /// Least mass of a particle.
 pub const MIN_MASS: i128 = 1;

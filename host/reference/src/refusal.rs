@@ -1,6 +1,7 @@
 //! Refusals: the number of the limit that is broken and the place where.
 
-/// A length: of a record, a set, a file or a grid buffer.
+/// A length: of a record, a set, a file, a grid buffer or a return's buffer; or a store that is not of its
+/// length and form.
 pub const LENGTH: u32 = 1;
 /// Nx or Ny out of range.
 pub const SIZE: u32 = 2;
@@ -42,6 +43,12 @@ pub const DRAG: u32 = 19;
 pub const PRESENT_NODE: u32 = 20;
 /// A node's mass that would be too large.
 pub const ADDED_MASS: u32 = 21;
+/// A name that is not 1 to 8 letters A to Z.
+pub const NAME: u32 = 22;
+/// A name that a store does not hold.
+pub const NOT_HELD: u32 = 23;
+/// A store that holds four other names.
+pub const FULL_STORE: u32 = 24;
 
 /// What was refused: the number in document 01 or 02, and the record or node counted from 0, or 0 where
 /// there is none.

@@ -4,8 +4,8 @@
 //!
 //! `NAME | OPERATION | BUFFERS | ANSWER | BUFFERS AFTER`
 //!
-//! - NAME is `operation/case`; a call of a list is `list/case/number`, and gets the records that the
-//!   call before left.
+//! - NAME is `operation/case`; a call of a list is `list/case/number`, and gets the records or the store
+//!   that the call before left.
 //! - OPERATION is the operation and the numbers that it is given, each after its name.
 //! - BUFFERS are those that the operation is given, each after its name, and BUFFERS AFTER those of
 //!   them that it changed, or `unchanged`.
@@ -16,6 +16,11 @@
 //!     the last whole record are `+` and hexadecimal.
 //!   - `mass`, `x`, `y` are the grid buffers in the order of the nodes, numbers with a comma between,
 //!     equal ones as `NUMBER*COUNT`; for gather, `x` and `y` are the velocity buffers.
+//!   - `file`, and the `buffer` of a return, are a header in hexadecimal and records.
+//!   - `name` is its letters in quotes, or else hexadecimal.
+//!   - `store` is its four places, `{}` for one that is free and else `{NAME HEADER RECORDS}`: NAME is
+//!     letters, or else eight bytes, and RECORDS reach the last byte that is not zero. A store of another
+//!     length is hexadecimal.
 //!   - `none` is a buffer of no length.
 //! - ANSWER is `refused R at P`, or `ok` with what the operation hands back; for run it is
 //!   `done N refusal R at P`, for the program its text with `\n` for each line feed.
@@ -29,8 +34,8 @@ mod text;
 
 use reference::report::program;
 use reference::{
-    adding_scatter, check_set, gather, read_file, read_record, run, scatter, step, totals, update,
-    weights, write_header, write_record,
+    adding_scatter, check_set, forget, gather, keep, read_file, read_record, return_to, run,
+    scatter, step, totals, update, weights, write_header, write_record,
 };
 use reference::{Grid, Header, Particle, Refusal, RunAnswer, Settings, Size, Totals};
 
@@ -53,6 +58,9 @@ pub enum Operation {
     Run(Settings, i128),
     ReadFile,
     WriteHeader(Header),
+    Keep,
+    Return,
+    Forget,
     Program,
 }
 
@@ -63,6 +71,36 @@ pub struct Buffers {
     pub bytes: Vec<u8>,
     /// Node masses, and momenta or velocities.
     pub grid: Grid,
+    /// A store.
+    pub store: Vec<u8>,
+    /// A name.
+    pub name: Vec<u8>,
+}
+
+impl Buffers {
+    /// Bytes and a grid.
+    pub fn new(bytes: Vec<u8>, grid: Grid) -> Self {
+        Buffers {
+            bytes,
+            grid,
+            store: Vec::new(),
+            name: Vec::new(),
+        }
+    }
+
+    /// Bytes alone.
+    pub fn of_bytes(bytes: Vec<u8>) -> Self {
+        Buffers::new(bytes, Grid::zero(0))
+    }
+
+    /// A store, a name, and a file or a buffer to write one to.
+    pub fn of_store(store: Vec<u8>, name: &[u8], bytes: Vec<u8>) -> Self {
+        Buffers {
+            store,
+            name: name.to_vec(),
+            ..Buffers::of_bytes(bytes)
+        }
+    }
 }
 
 /// What an operation answers.
@@ -77,6 +115,7 @@ pub enum Answer {
     Weights([i128; 3]),
     Ran(RunAnswer),
     Header(Header),
+    Length(usize),
     Text(String),
 }
 
@@ -112,7 +151,12 @@ pub struct Case {
 
 /// The answer of the reference; the buffers are left as the operation leaves them.
 pub fn perform(operation: Operation, buffers: &mut Buffers) -> Answer {
-    let Buffers { bytes, grid } = buffers;
+    let Buffers {
+        bytes,
+        grid,
+        store,
+        name,
+    } = buffers;
     let answer = match operation {
         Operation::ReadRecord => read_record(bytes).map(Answer::Particle),
         Operation::WriteRecord(particle) => write_record(&particle, bytes).map(|()| Answer::Done),
@@ -138,6 +182,9 @@ pub fn perform(operation: Operation, buffers: &mut Buffers) -> Answer {
         ))),
         Operation::ReadFile => read_file(bytes).map(Answer::Header),
         Operation::WriteHeader(header) => write_header(&header, bytes).map(|()| Answer::Done),
+        Operation::Keep => keep(store, name, bytes).map(|()| Answer::Done),
+        Operation::Return => return_to(store, name, bytes).map(Answer::Length),
+        Operation::Forget => forget(store, name).map(|()| Answer::Done),
         Operation::Program => Ok(Answer::Text(program(bytes))),
     };
     answer.unwrap_or_else(Answer::Refused)

@@ -2,7 +2,8 @@
 
 use std::fmt::{self, Display, Formatter};
 
-use reference::limits::{HEADER_LENGTH, RECORD_LENGTH};
+use reference::limits::{HEADER_LENGTH, NAME_LENGTH, RECORD_LENGTH};
+use reference::limits::{STORE_LENGTH, STORE_PLACE_LENGTH};
 use reference::{Header, Particle, RunAnswer, Settings, Size};
 
 use crate::{Answer, Buffers, Case, Operation};
@@ -73,6 +74,9 @@ impl Display for Operation {
             }
             Operation::ReadFile => write!(f, "read-file"),
             Operation::WriteHeader(ref h) => write!(f, "write-header {}", header_text(h)),
+            Operation::Keep => write!(f, "keep"),
+            Operation::Return => write!(f, "return"),
+            Operation::Forget => write!(f, "forget"),
             Operation::Program => write!(f, "program"),
         }
     }
@@ -97,6 +101,7 @@ impl Display for Answer {
                 write!(f, "done {completed} refusal {number} at {place}")
             }
             Answer::Header(header) => write!(f, "ok {}", header_text(header)),
+            Answer::Length(length) => write!(f, "ok {length}"),
             Answer::Text(text) => write!(f, "{}", text.replace('\n', "\\n")),
         }
     }
@@ -215,9 +220,59 @@ fn file_buffers(file: &[u8]) -> Vec<NamedBuffer> {
     ]
 }
 
+/// A header and records; a header alone where no byte follows.
+fn file_text(file: &[u8]) -> String {
+    let parts = file_buffers(file).into_iter().map(|(_, text)| text);
+    parts.collect::<Vec<_>>().join(" ")
+}
+
+/// The letters of a name in quotes, if it has letters alone.
+fn letters(name: &[u8]) -> Option<String> {
+    let all = !name.is_empty() && name.iter().all(u8::is_ascii_uppercase);
+    all.then(|| format!("\"{}\"", String::from_utf8_lossy(name)))
+}
+
+/// The letters of a name, or the bytes of what is none.
+fn name_text(name: &[u8]) -> String {
+    letters(name).unwrap_or_else(|| bytes_text(name))
+}
+
+/// The bytes to the last one that is not zero.
+fn to_last(bytes: &[u8]) -> &[u8] {
+    let end = bytes.iter().rposition(|&byte| byte != 0);
+    &bytes[..end.map_or(0, |end| end + 1)]
+}
+
+/// A place of a store.
+fn place_text(place: &[u8]) -> String {
+    let used = to_last(place).len();
+    if used == 0 {
+        return "{}".to_string();
+    }
+    let (name, room) = place.split_at(NAME_LENGTH);
+    let name = letters(to_last(name)).unwrap_or_else(|| bytes_text(name));
+    let records = used.saturating_sub(NAME_LENGTH + HEADER_LENGTH);
+    let end = HEADER_LENGTH + RECORD_LENGTH * records.div_ceil(RECORD_LENGTH);
+    format!("{{{name} {}}}", file_text(&room[..end]))
+}
+
+fn store_text(store: &[u8]) -> String {
+    if store.len() != STORE_LENGTH {
+        return bytes_text(store);
+    }
+    let places = store.chunks(STORE_PLACE_LENGTH).map(place_text);
+    places.collect::<Vec<_>>().join(" ")
+}
+
 /// The buffers that an operation is given.
 fn named_buffers(operation: &Operation, buffers: &Buffers) -> Vec<NamedBuffer> {
-    let Buffers { bytes, grid } = buffers;
+    let Buffers {
+        bytes, grid, store, ..
+    } = buffers;
+    let (store, name) = (
+        ("store", store_text(store)),
+        ("name", name_text(&buffers.name)),
+    );
     let records = ("records", records_text(bytes));
     let mass = ("mass", numbers_text(&grid.mass));
     let (x, y) = (("x", numbers_text(&grid.x)), ("y", numbers_text(&grid.y)));
@@ -227,6 +282,9 @@ fn named_buffers(operation: &Operation, buffers: &Buffers) -> Vec<NamedBuffer> {
             vec![("bytes", bytes_text(bytes))]
         }
         Operation::ReadFile | Operation::Program => file_buffers(bytes),
+        Operation::Keep => vec![store, name, ("file", file_text(bytes))],
+        Operation::Return => vec![store, name, ("buffer", file_text(bytes))],
+        Operation::Forget => vec![store, name],
         Operation::CheckSet(_) | Operation::Totals(_) => vec![records],
         Operation::Update(_) => vec![mass, x, y],
         Operation::Gather(_) => vec![records, x, y],

@@ -6,7 +6,7 @@ use reference::limits::RECORD_LENGTH;
 use vectors::{cases, Answer, Case, Operation};
 
 /// The refusals that documents 01 and 02 list for each operation.
-const LISTED: [(&str, &[u32]); 13] = [
+const LISTED: [(&str, &[u32]); 16] = [
     ("read-record", &[1, 4, 5, 6]),
     ("write-record", &[1, 4, 5, 6, 7]),
     ("check-set", &[1, 2, 4, 5, 6, 7, 8, 9]),
@@ -20,6 +20,9 @@ const LISTED: [(&str, &[u32]); 13] = [
     ("run", &[1, 2, 4, 5, 6, 7, 8, 9, 10, 13, 14, 15, 17, 18, 19]),
     ("read-file", &[1, 2, 3, 4, 5, 6, 7, 8, 9, 10, 16, 17, 18]),
     ("write-header", &[1, 2, 3, 10, 17, 18, 19]),
+    ("keep", &[1, 2, 3, 4, 5, 6, 7, 8, 9, 10, 16, 17, 18, 22, 24]),
+    ("return", &[1, 22, 23]),
+    ("forget", &[1, 22, 23]),
 ];
 
 fn group(case: &Case) -> &str {
@@ -64,9 +67,10 @@ fn every_listed_refusal_and_no_other() {
 
 #[test]
 fn every_operation_accepts_something() {
+    let cases = cases();
     for (operation, _) in LISTED {
         let accepted = |case: &Case| group(case) == operation && case.answer.refusal().is_none();
-        assert!(cases().iter().any(accepted), "{operation}");
+        assert!(cases.iter().any(accepted), "{operation}");
     }
 }
 
@@ -114,7 +118,7 @@ fn refused_calls_change_nothing() {
         match case.operation {
             Operation::Step(_) if tried => assert_eq!(case.after.bytes, case.before.bytes),
             Operation::Run(..) if tried => {}
-            _ => assert_eq!(case.after, case.before, "{}", case.name),
+            _ => assert!(case.after == case.before, "{}", case.name),
         }
     }
 }
@@ -125,15 +129,18 @@ fn calls_of_a_list_follow_each_other() {
     for pair in cases.windows(2) {
         let list = |case: &Case| case.name.rsplit_once('/').map(|(list, _)| list.to_string());
         if group(&pair[0]) == "list" && list(&pair[0]) == list(&pair[1]) {
-            assert_eq!(pair[0].after.bytes, pair[1].before.bytes);
+            assert!(pair[0].after.store == pair[1].before.store);
+            if pair[0].after.store.is_empty() {
+                assert_eq!(pair[0].after.bytes, pair[1].before.bytes);
+            }
         }
     }
 }
 
 #[test]
 fn stopped_runs() {
+    let cases = cases();
     let completed = |name: &str| {
-        let cases = cases();
         let case = cases.iter().find(|case| case.name == name);
         match case.expect("a case of this name").answer {
             Answer::Ran(answer) => answer.completed,

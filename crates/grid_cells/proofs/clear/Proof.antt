@@ -5,7 +5,7 @@ use native.Mathlib.Omega.{arith}
 use lib.ListN.{length, length-set}
 use lib.IntN.{pos}
 use borrow.Author.Needs.{needs}
-use Rattle.grid_cells.proofs.Zeros.{Cleared, clear-one, clear-end}
+use Rattle.arith.specs.Zeros.{Cleared, clear-one, clear-end}
 use Rattle.grid_cells.proofs.clear.Statement.{statement}
 use Rattle.grid_cells.proofs.clear.Tie as tie
 

@@ -4,7 +4,7 @@ use Prim.Native.Nat.{_-_, zero-le}
 use native.Mathlib.Omega.{arith}
 use lib.ListN.{length, length-set}
 use borrow.Author.Needs.{needs}
-use Rattle.grid_cells.proofs.Zeros.{Cleared, clear-one, clear-end}
+use Rattle.arith.specs.Zeros.{Cleared, clear-one, clear-end}
 use Rattle.grid_cells.proofs.clear_masses.Statement.{statement}
 use Rattle.grid_cells.proofs.clear_masses.Tie as tie
 

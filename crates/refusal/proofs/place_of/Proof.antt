@@ -68,6 +68,15 @@ enum-known-refusal-12 c = search needs
 enum-known-refusal-13 : tie.Need-enum-known-refusal-13
 enum-known-refusal-13 c = search needs
 
+enum-told-9 : tie.Need-enum-told-9
+enum-told-9 c = search needs
+
+enum-told-10 : tie.Need-enum-told-10
+enum-told-10 c = search needs
+
+enum-told-11 : tie.Need-enum-told-11
+enum-told-11 c = search needs
+
 returns : tie.Need-returns
 returns c = sym (ap place (c .enum-told .given .1))
 
@@ -131,6 +140,15 @@ returns-20 c = sym (ap place (c .before .refusal12 .given .1))
 returns-21 : tie.Need-returns-21
 returns-21 c = sym (ap place (c .before .refusal13 .given .1))
 
+returns-22 : tie.Need-returns-22
+returns-22 c = sym (ap place (c .enum-told9 .given .1))
+
+returns-23 : tie.Need-returns-23
+returns-23 c = sym (ap place (c .enum-told10 .given .1))
+
+returns-24 : tie.Need-returns-24
+returns-24 c = sym (ap place (c .enum-told11 .given .1))
+
 pub place-of-spec : {M : Type 1} → statement M
 place-of-spec =
     tie.close
@@ -156,6 +174,9 @@ place-of-spec =
     enum-told-8
     enum-known-refusal-12
     enum-known-refusal-13
+    enum-told-9
+    enum-told-10
+    enum-told-11
     returns
     returns-2
     returns-3
@@ -176,4 +197,7 @@ place-of-spec =
     returns-18
     returns-19
     returns-20
-    returns-21)
+    returns-21
+    returns-22
+    returns-23
+    returns-24)

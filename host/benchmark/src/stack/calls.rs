@@ -3,8 +3,9 @@
 use compare::inputs::{self, Call};
 use compare::stream;
 use reference::generator::Generator;
+use reference::limits::{MAX_FILE_LENGTH, STORE_LENGTH};
 use reference::particle_set::pack_records;
-use reference::{Edge, Grid, Header, Particle, Settings, Size};
+use reference::{keep, Edge, Grid, Header, Particle, Settings, Size};
 use vectors::{Buffers, Operation};
 
 use super::table;
@@ -129,19 +130,57 @@ impl Bath {
             for speed in [5, 20_000] {
                 let grid = Grid::filled(self.nodes, 3, speed, -speed);
                 let bytes = records.clone();
-                each(operation, Buffers { bytes, grid });
+                each(operation, Buffers::new(bytes, grid));
             }
         }
         for steps in [3, 10_001] {
             let bytes = self.file_of(&records, steps);
-            let grid = Grid::zero(0);
-            each(Operation::ReadFile, Buffers { bytes, grid });
+            each(Operation::ReadFile, Buffers::of_bytes(bytes));
+        }
+    }
+}
+
+/// A store that holds this file under each of the names.
+fn store(names: &[&[u8]], file: &[u8]) -> Vec<u8> {
+    let mut store = vec![0; STORE_LENGTH];
+    for name in names {
+        keep(&mut store, name, file).expect("a place for the bath");
+    }
+    store
+}
+
+/// Calls with this file, on stores that are empty, that hold three of the largest baths, with this one and
+/// without, or four, and that are without the form; with names that are held, that are not, and that are
+/// none.
+fn store_calls(file: &[u8], largest: &[u8], mut each: impl FnMut(Operation, Buffers)) {
+    let others: [&[u8]; 4] = [b"A", b"SECOND", b"ABCDEFGH", b"Z"];
+    let mut held = store(&others[..3], largest);
+    let with_gap = held.clone();
+    keep(&mut held, b"NAME", file).expect("a place for the bath");
+    let mut ill_formed = held.clone();
+    ill_formed[STORE_LENGTH - 1] = 1;
+    let full = store(&others, largest);
+    for store in [
+        vec![0; STORE_LENGTH],
+        with_gap,
+        held,
+        full,
+        ill_formed,
+        vec![0; 9],
+    ] {
+        for name in [&b"NAME"[..], b"OTHER", b"name"] {
+            let buffers = |bytes: Vec<u8>| Buffers::of_store(store.clone(), name, bytes);
+            each(Operation::Keep, buffers(file.to_vec()));
+            each(Operation::Forget, buffers(Vec::new()));
+            for length in [MAX_FILE_LENGTH, MAX_FILE_LENGTH - 1] {
+                each(Operation::Return, buffers(vec![0xA5; length]));
+            }
         }
     }
 }
 
 /// The inputs of the comparison for each operation.
-const MADE: [fn(&mut Generator) -> Call; 13] = [
+const MADE: [fn(&mut Generator) -> Call; 16] = [
     inputs::read_record,
     inputs::write_record,
     inputs::check_set,
@@ -155,12 +194,17 @@ const MADE: [fn(&mut Generator) -> Call; 13] = [
     inputs::run,
     inputs::read_file,
     inputs::write_header,
+    inputs::keep,
+    inputs::return_to,
+    inputs::forget,
 ];
 
-/// All calls: baths of every size on the smallest grid, on the largest and on one between, the vectors, and
-/// inputs of the comparison.
+/// All calls: baths of every size on the smallest grid, on the largest and on one between, stores, the
+/// vectors, and inputs of the comparison.
 pub fn all(mut each: impl FnMut(Operation, Buffers)) {
+    let largest = Bath::new(4096, 48).file();
     for count in COUNTS {
+        store_calls(&Bath::new(count, 48).file(), &largest, &mut each);
         for side in [4, 16, 48] {
             for bath in Bath::new(count, side).variants() {
                 bath.calls(&mut each);

@@ -5,10 +5,11 @@ use std::fs;
 use std::path::Path;
 
 use reference::limits::{HEADER_LENGTH, RECORD_LENGTH};
-use vectors::Operation;
+use reference::Store;
+use vectors::{Buffers, Operation};
 
 /// The rows: the name in README, and in the C header where it is a call.
-pub const ROWS: [(&str, Option<&str>); 16] = [
+pub const ROWS: [(&str, Option<&str>); 19] = [
     ("run", Some("gondwize_run")),
     ("run of no step", Some("gondwize_run, no step")),
     ("step", Some("gondwize_step")),
@@ -24,6 +25,9 @@ pub const ROWS: [(&str, Option<&str>); 16] = [
     ("write a record", Some("gondwize_write_record")),
     ("read a file", Some("gondwize_read_file")),
     ("write a header", Some("gondwize_write_header")),
+    ("keep", Some("gondwize_keep")),
+    ("return", Some("gondwize_return")),
+    ("forget", Some("gondwize_forget")),
     ("the program", None),
 ];
 
@@ -60,30 +64,55 @@ pub fn column(particles: usize) -> usize {
     1 + MOST.partition_point(|&most| most < particles)
 }
 
-/// The place of a call on a buffer of so many bytes that answers this number.
-pub fn cell(operation: Operation, length: usize, answer: u64) -> Cell {
-    let (name, particles) = match operation {
-        Operation::Run(_, 0) => ("run of no step", length / RECORD_LENGTH),
-        Operation::Run(..) => ("run", length / RECORD_LENGTH),
-        Operation::Step(_) => ("step", length / RECORD_LENGTH),
-        Operation::Scatter(_) => ("scatter", length / RECORD_LENGTH),
-        Operation::AddingScatter(size) if size.check().is_ok() && size.nodes() <= 320 => {
-            ("adding scatter, to 320 nodes", length / RECORD_LENGTH)
+/// The particles of a file.
+fn of_file(file: &[u8]) -> usize {
+    file.len().saturating_sub(HEADER_LENGTH) / RECORD_LENGTH
+}
+
+/// The particles that a call is counted by: those of its set, of its file, or of the bath that is held
+/// under its name.
+pub fn particles(operation: Operation, before: &Buffers) -> usize {
+    match operation {
+        Operation::Run(..)
+        | Operation::Step(_)
+        | Operation::Scatter(_)
+        | Operation::AddingScatter(_)
+        | Operation::Gather(_)
+        | Operation::CheckSet(_)
+        | Operation::Totals(_) => before.bytes.len() / RECORD_LENGTH,
+        Operation::ReadFile | Operation::Keep => of_file(&before.bytes),
+        Operation::Return | Operation::Forget => {
+            let store = Store::read(&before.store).unwrap_or_default();
+            store.held(&before.name).map_or(0, of_file)
         }
-        Operation::AddingScatter(_) => ("adding scatter", length / RECORD_LENGTH),
-        Operation::Update(_) => ("update", 0),
-        Operation::Gather(_) => ("gather", length / RECORD_LENGTH),
-        Operation::CheckSet(_) => ("check a set", length / RECORD_LENGTH),
-        Operation::Totals(_) => ("totals", length / RECORD_LENGTH),
-        Operation::Weights(_) => ("weights", 0),
-        Operation::ReadRecord => ("read a record", 0),
-        Operation::WriteRecord(_) => ("write a record", 0),
-        Operation::ReadFile => (
-            "read a file",
-            length.saturating_sub(HEADER_LENGTH) / RECORD_LENGTH,
-        ),
-        Operation::WriteHeader(_) => ("write a header", 0),
-        Operation::Program => ("the program", 0),
+        _ => 0,
+    }
+}
+
+/// The place of a call on so many particles that answers this number.
+pub fn cell(operation: Operation, particles: usize, answer: u64) -> Cell {
+    let name = match operation {
+        Operation::Run(_, 0) => "run of no step",
+        Operation::Run(..) => "run",
+        Operation::Step(_) => "step",
+        Operation::Scatter(_) => "scatter",
+        Operation::AddingScatter(size) if size.check().is_ok() && size.nodes() <= 320 => {
+            "adding scatter, to 320 nodes"
+        }
+        Operation::AddingScatter(_) => "adding scatter",
+        Operation::Update(_) => "update",
+        Operation::Gather(_) => "gather",
+        Operation::CheckSet(_) => "check a set",
+        Operation::Totals(_) => "totals",
+        Operation::Weights(_) => "weights",
+        Operation::ReadRecord => "read a record",
+        Operation::WriteRecord(_) => "write a record",
+        Operation::ReadFile => "read a file",
+        Operation::WriteHeader(_) => "write a header",
+        Operation::Keep => "keep",
+        Operation::Return => "return",
+        Operation::Forget => "forget",
+        Operation::Program => "the program",
     };
     let row = ROWS.iter().position(|row| row.0 == name).expect("a row");
     let refused = answer != 0 && !LATE.contains(&(answer >> 32));

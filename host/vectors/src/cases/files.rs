@@ -58,7 +58,8 @@ fn read(name: &str, file: Buffers, stated: Option<(u32, usize)>) -> Case {
     )
 }
 
-fn read_refusals() -> Vec<Case> {
+/// Every refusal of read a file.
+pub fn read_refusals() -> Vec<Case> {
     let one = marked(lone(1)).pack();
     let two = marked_records(&copies(2, lone(0)));
     let mut cases: Vec<Case> = [0, 1, 8, 9, 10]

@@ -5,6 +5,7 @@ mod halves;
 mod records;
 mod sets;
 mod simulation;
+mod stores;
 mod transfers;
 
 use reference::limits::RECORD_LENGTH;
@@ -22,6 +23,7 @@ pub fn cases() -> Vec<Case> {
         simulation::cases(),
         halves::cases(),
         files::cases(),
+        stores::cases(),
     ]
     .concat()
 }
@@ -50,8 +52,7 @@ fn case(
 
 /// Buffers without a grid.
 fn bytes(bytes: impl Into<Vec<u8>>) -> Buffers {
-    let (bytes, grid) = (bytes.into(), Grid::zero(0));
-    Buffers { bytes, grid }
+    Buffers::of_bytes(bytes.into())
 }
 
 /// A grid for the size that holds what no operation leaves.
@@ -61,8 +62,7 @@ fn used_grid(size: Size) -> Grid {
 
 /// Records with a used grid of this size.
 fn with_grid(bytes: impl Into<Vec<u8>>, size: Size) -> Buffers {
-    let (bytes, grid) = (bytes.into(), used_grid(size));
-    Buffers { bytes, grid }
+    Buffers::new(bytes.into(), used_grid(size))
 }
 
 /// The printed example's particle.

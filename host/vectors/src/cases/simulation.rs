@@ -364,10 +364,7 @@ fn list(name: &str, start: &[Particle], calls: &[ListCall]) -> Vec<Case> {
 fn list_of(name: &str, mut bytes: Vec<u8>, calls: &[ListCall]) -> Vec<Case> {
     let mut cases = Vec::new();
     for (number, (operation, grid, stated)) in calls.iter().enumerate() {
-        let buffers = Buffers {
-            bytes,
-            grid: grid.clone(),
-        };
+        let buffers = Buffers::new(bytes, grid.clone());
         let case = case(
             format!("list/{name}/{number}"),
             *operation,

@@ -170,7 +170,7 @@ fn add_to_grid(
     stated: Option<(u32, usize)>,
 ) -> Case {
     let name = format!("adding-scatter/{name}");
-    let buffers = Buffers { bytes, grid };
+    let buffers = Buffers::new(bytes, grid);
     case(name, Operation::AddingScatter(size), buffers, stated)
 }
 
@@ -349,8 +349,7 @@ fn settings(gx: i128, gy: i128) -> Settings {
 
 /// Buffers of a grid alone.
 fn grid_alone(grid: Grid) -> Buffers {
-    let bytes = Vec::new();
-    Buffers { bytes, grid }
+    Buffers::new(Vec::new(), grid)
 }
 
 fn update_refusals() -> Vec<Case> {
@@ -602,7 +601,7 @@ fn gather_uniform(
     let bytes = marked_records(particles);
     let operation = Operation::Gather(size);
     let name = format!("gather/{name}");
-    case(name, operation, Buffers { bytes, grid }, stated)
+    case(name, operation, Buffers::new(bytes, grid), stated)
 }
 
 /// A velocity buffer by column and row.
@@ -625,7 +624,7 @@ pub fn gather_field(
     let bytes = marked_records(particles);
     let operation = Operation::Gather(size);
     let name = format!("gather/{name}");
-    case(name, operation, Buffers { bytes, grid }, stated)
+    case(name, operation, Buffers::new(bytes, grid), stated)
 }
 
 fn gather_refusals() -> Vec<Case> {
@@ -866,7 +865,7 @@ fn gather_marks() -> Vec<Case> {
         case(
             name,
             Operation::Gather(size),
-            Buffers { bytes, grid },
+            Buffers::new(bytes, grid),
             stated,
         )
     };

@@ -1,0 +1,5 @@
+pub mod Names
+pub mod Form
+pub mod Operations
+pub mod Internal
+pub mod Calls

@@ -1,0 +1,285 @@
+//! Stores: long lists of calls, each on the store that the one before left, refused ones included; stores
+//! that are damaged; lists with steps and runs between, where demand 3 holds from the bath returned to.
+
+use std::collections::{BTreeMap, BTreeSet};
+
+use compare::calls::agreed;
+use compare::steps::{completed, particles, work};
+use compare::{count, inputs, seed, stream};
+use reference::bath_file::{pack_file, read_file};
+use reference::conservation::Ledger;
+use reference::generator::Generator;
+use reference::limits::{HEADER_LENGTH, MAX_FILE_LENGTH, STORE_LENGTH, STORE_PLACES};
+use reference::{Refusal, Settings, Size, Store};
+use vectors::{Answer, Buffers, Operation};
+
+/// The bath last kept under each name and not forgotten.
+type Baths = BTreeMap<Vec<u8>, Vec<u8>>;
+
+/// Calls both; the answer and the buffers. A refused call changes nothing, and an accepted one changes
+/// the baths as it says and nothing else.
+fn call(
+    told: &str,
+    operation: Operation,
+    before: &Buffers,
+    baths: &mut Baths,
+) -> (Answer, Buffers) {
+    let (answer, after) = agreed(told, operation, before).expect("a call of the engine");
+    let Buffers { bytes, name, .. } = before;
+    match (operation, &answer) {
+        (_, Answer::Refused(_)) => assert!(after == *before, "{told}: a refused call"),
+        (Operation::Keep, Answer::Done) => {
+            baths.insert(name.clone(), bytes.clone());
+            assert!(
+                baths.len() <= STORE_PLACES,
+                "{told}: more names than places"
+            );
+        }
+        (Operation::Return, Answer::Length(length)) => {
+            assert!(
+                Some(&after.bytes[..*length]) == baths.get(name).map(Vec::as_slice),
+                "{told}"
+            );
+            assert!(
+                after.bytes[*length..] == bytes[*length..],
+                "{told}: the buffer's rest"
+            );
+            assert!(
+                after.store == before.store,
+                "{told}: a return that writes the store"
+            );
+        }
+        (Operation::Forget, Answer::Done) => {
+            assert!(
+                baths.remove(name).is_some(),
+                "{told}: a name that was not held"
+            );
+        }
+        other => panic!("{told}: {other:?}"),
+    }
+    (answer, after)
+}
+
+/// The store holds these baths and no other.
+fn holds(told: &str, store: &[u8], baths: &Baths) {
+    let held = Store::read(store).expect("a store of the form");
+    let names = held.names().map(<[u8]>::to_vec);
+    assert!(names.eq(baths.keys().cloned()), "{told}: other names");
+    for (name, file) in baths {
+        assert!(
+            held.held(name) == Some(file),
+            "{told}: another bath under {name:?}"
+        );
+    }
+}
+
+fn number(answer: &Answer) -> u32 {
+    answer.refusal().map_or(0, |refusal| refusal.number)
+}
+
+/// A list of two thousand calls; the numbers of its answers.
+fn list(input: u64) -> BTreeSet<u32> {
+    let mut numbers = stream("list of a store", input);
+    let (mut store, mut baths) = (vec![0; STORE_LENGTH], Baths::new());
+    let mut seen = BTreeSet::new();
+    for k in 0..2_000 {
+        let told = format!("store, COMPARE_SEED {}, input {input}, call {k}", seed());
+        let (operation, before) = inputs::store_call(&mut numbers, &store);
+        let (answer, after) = call(&told, operation, &before, &mut baths);
+        seen.insert(number(&answer));
+        store = after.store;
+        holds(&told, &store, &baths);
+    }
+    seen
+}
+
+#[test]
+fn lists() {
+    let seen: BTreeSet<u32> = (0..count().div_ceil(5_000)).flat_map(list).collect();
+    let files = [2, 3, 4, 5, 6, 7, 8, 9, 10, 16, 17, 18];
+    let stores: BTreeSet<u32> = seen.into_iter().filter(|n| !files.contains(n)).collect();
+    assert!(stores.iter().eq(&[0, 1, 22, 23, 24]), "only {stores:?}");
+}
+
+/// All three refuse the store with 1, whatever the name, the file and the buffer.
+fn ill_formed(told: &str, numbers: &mut Generator, store: &[u8]) {
+    let given = |_: &mut Generator| store.to_vec();
+    let calls = [
+        inputs::keep_in(numbers, given),
+        inputs::return_from(numbers, given),
+        inputs::forget_in(numbers, given),
+    ];
+    for (operation, before) in calls {
+        let (answer, after) = agreed(told, operation, &before).expect("a call of the engine");
+        assert_eq!(
+            answer,
+            Answer::Refused(Refusal::at(1, 0)),
+            "{told}: {operation:?}"
+        );
+        assert!(after == before, "{told}: {operation:?} changes something");
+    }
+}
+
+#[test]
+fn damaged_stores() {
+    for kind in 0..inputs::STORE_DAMAGES {
+        let name = format!("damage {kind} of a store");
+        let mut broken = 0;
+        let inputs = count().div_ceil(100);
+        for input in 0..inputs {
+            let mut numbers = stream(&name, input);
+            let mut store = inputs::well_formed(&mut numbers);
+            assert!(Store::read(&store).is_ok(), "{name}, input {input}");
+            inputs::damage_store(&mut numbers, &mut store, kind);
+            if Store::read(&store).is_err() {
+                let told = format!("{name}, COMPARE_SEED {}, input {input}", seed());
+                ill_formed(&told, &mut numbers, &store);
+                broken += 1;
+            }
+        }
+        assert!(
+            inputs < 100 || broken > inputs / 20,
+            "{name}: only {broken} of {inputs}"
+        );
+    }
+}
+
+/// What floats: its settings, its records, and demand 3's sums from the last bath returned to.
+struct Floating {
+    settings: Settings,
+    records: Vec<u8>,
+    sums: Ledger,
+}
+
+impl Floating {
+    fn of(settings: Settings, records: &[u8]) -> Self {
+        Floating {
+            settings,
+            records: records.to_vec(),
+            sums: Ledger::new(&particles(records)),
+        }
+    }
+
+    /// A step or a run; the number of completed steps.
+    fn float(&mut self, told: &str, numbers: &mut Generator) -> usize {
+        let (operation, before) = inputs::list_call(numbers, self.settings.size, &self.records);
+        let (answer, after) = agreed(told, operation, &before).expect("a call of the engine");
+        let (done, settings) = completed(operation, &answer);
+        work(done, settings, &mut self.records, &mut self.sums);
+        assert_eq!(after.bytes, self.records, "{told}: the last completed step");
+        done
+    }
+
+    /// The bath as a file.
+    fn file(&self) -> Vec<u8> {
+        pack_file(self.settings, 7, &particles(&self.records))
+    }
+
+    fn check(&self, told: &str) {
+        let kept = self.sums.check(&particles(&self.records));
+        kept.unwrap_or_else(|why| panic!("{told}: {why}"));
+    }
+}
+
+/// One list of floats, keeps, returns and forgets; how many steps and returns it completed.
+fn mixed(input: u64) -> (usize, usize) {
+    let told = format!("floats, COMPARE_SEED {}, input {input}", seed());
+    let mut numbers = stream("floats", input);
+    let (size, records) = inputs::accepted(&mut numbers);
+    let mut floating = Floating::of(Settings::new(size, 3, -2), &records);
+    let (mut store, mut baths) = (vec![0; STORE_LENGTH], Baths::new());
+    let (mut steps, mut returns) = (0, 0);
+    for _ in 0..numbers.between(4, 24) {
+        let name = inputs::name(&mut numbers);
+        let (operation, bytes) = match numbers.between(0, 9) {
+            0..=4 => {
+                steps += floating.float(&told, &mut numbers);
+                continue;
+            }
+            5 | 6 => (Operation::Keep, floating.file()),
+            7 | 8 => (Operation::Return, vec![0x5A; MAX_FILE_LENGTH]),
+            _ => (Operation::Forget, Vec::new()),
+        };
+        let before = Buffers::of_store(store, &name, bytes);
+        let (answer, after) = call(&told, operation, &before, &mut baths);
+        if let Answer::Length(length) = answer {
+            floating.check(&told);
+            let file = &after.bytes[..length];
+            let settings = read_file(file).expect("an accepted file").settings;
+            floating = Floating::of(settings, &file[HEADER_LENGTH..]);
+            returns += 1;
+        }
+        store = after.store;
+    }
+    floating.check(&told);
+    holds(&told, &store, &baths);
+    (steps, returns)
+}
+
+#[test]
+fn floats_from_the_bath_returned_to() {
+    let (mut steps, mut returns) = (0, 0);
+    for input in 0..count().div_ceil(40) {
+        let (more_steps, more_returns) = mixed(input);
+        steps += more_steps;
+        returns += more_returns;
+    }
+    assert!(steps > 0 && returns > 0, "{steps} steps, {returns} returns");
+}
+
+/// Four of the largest baths, each kept, returned to, replaced and forgotten, and a fifth name refused.
+#[test]
+fn four_of_the_largest_baths() {
+    let names: [&[u8]; 4] = [b"ONE", b"TWO", b"THREE", b"FOUR"];
+    let mut numbers = stream("the largest baths", 0);
+    let mut largest = |count: usize| {
+        let (size, records) = inputs::full_set(&mut numbers, count);
+        pack_file(Settings::new(size, 1, -1), 9, &particles(&records))
+    };
+    let (mut store, mut baths) = (vec![0; STORE_LENGTH], Baths::new());
+    let mut made = |operation: Operation, name: &[u8], bytes: Vec<u8>| {
+        let before = Buffers::of_store(std::mem::take(&mut store), name, bytes);
+        let (answer, after) = call("the largest baths", operation, &before, &mut baths);
+        holds("the largest baths", &after.store, &baths);
+        store = after.store;
+        number(&answer)
+    };
+    for name in names {
+        assert_eq!(made(Operation::Keep, name, largest(4_096)), 0);
+    }
+    assert_eq!(made(Operation::Keep, b"FIVE", largest(4_096)), 24);
+    assert_eq!(made(Operation::Keep, b"FIVE", largest(4_097)), 3);
+    for name in names {
+        assert_eq!(
+            made(Operation::Return, name, vec![0x5A; MAX_FILE_LENGTH]),
+            0
+        );
+        assert_eq!(made(Operation::Keep, name, largest(4_095)), 0);
+        assert_eq!(
+            made(Operation::Return, name, vec![0x5A; MAX_FILE_LENGTH]),
+            0
+        );
+    }
+    for name in names {
+        assert_eq!(made(Operation::Forget, name, Vec::new()), 0);
+        assert_eq!(made(Operation::Forget, name, Vec::new()), 23);
+    }
+    assert!(store == vec![0; STORE_LENGTH]);
+}
+
+/// A size that a full set of 4 by 4 nodes has not: a store is judged by each file's own header.
+#[test]
+fn baths_of_different_sizes() {
+    let mut numbers = stream("baths of different sizes", 0);
+    let (mut store, mut baths) = (vec![0; STORE_LENGTH], Baths::new());
+    for (name, side) in [(&b"A"[..], 4), (b"B", 48), (b"C", 17)] {
+        let size = Size::new(side, 52 - side);
+        let particles = numbers.particles(size, 30, 63, 2047);
+        let file = pack_file(Settings::new(size, 4096, -4096), 10_000, &particles);
+        let before = Buffers::of_store(store, name, file);
+        let (answer, after) = call("sizes", Operation::Keep, &before, &mut baths);
+        assert_eq!(answer, Answer::Done);
+        store = after.store;
+    }
+    holds("sizes", &store, &baths);
+}
