@@ -198,21 +198,21 @@ fn looking(name: u64, bytes: &[u8]) {
     }
 }
 
-// Those that may change them.
-fn changing(name: u64, bytes: &mut [u8]) {
+// Those that may change them, and those on the store.
+fn changing(name: u64, bytes: &mut [u8], lent: usize, store: &mut [u8]) {
     match name {
         names::WRITE => write_record(bytes),
         names::GATHER => gather(bytes),
         names::STEP => step(bytes),
         names::RUN => run(bytes),
         names::HEADER => write_header(bytes),
-        _ => {}
+        _ => store_cases::call(name, lent, store, bytes),
     }
 }
 
-// Calls an operation with the bytes up to the end.
-pub fn call(name: u64, end: usize, bytes: &mut [u8]) {
+// Calls an operation with the bytes up to the end, and with as much of the store as is lent.
+pub fn call(name: u64, end: usize, bytes: &mut [u8], lent: usize, store: &mut [u8]) {
     let n = within(end, bytes.len());
     looking(name, &bytes[..n]);
-    changing(name, &mut bytes[..n]);
+    changing(name, &mut bytes[..n], lent, store);
 }

@@ -1,6 +1,8 @@
 // The names that a line may begin with, each the number that its letters make in ASCII.
 pub const RECORDS: u64 = 0x7265636f726473;
 
+pub const STORE: u64 = 0x73746f7265;
+
 pub const WEIGHTS: u64 = 0x77656967687473;
 
 pub const READ: u64 = 0x72656164;

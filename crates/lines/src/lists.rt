@@ -3,7 +3,7 @@
 use crate::words;
 ghost use Prim.Native.Nat.{_≤_};
 
-// The room of a grid's buffer.
+// The room of a grid's buffer, and of a name's.
 pub const NODES: usize = 24;
 
 // A count, or the room where that is less.
@@ -32,6 +32,18 @@ pub fn integers<'a>(list: &'a mut [i64]) -> &'a mut [i64] {
     while k < list.len() {
         word = words::next(word);
         list[k] = words::signed(word.bits);
+        k += 1;
+    }
+    &mut list[..count]
+}
+
+pub fn octets<'a>(list: &'a mut [u8]) -> &'a mut [u8] {
+    let mut word = words::read_word();
+    let count = within(word.bits as usize, list.len());
+    let mut k = 0;
+    while k < list.len() {
+        word = words::next(word);
+        list[k] = (word.bits % 256) as u8;
         k += 1;
     }
     &mut list[..count]

@@ -6,6 +6,8 @@ use crate::words::SPACE;
 use libc::STDOUT_FILENO;
 use numerals::magnitude;
 use particle::NUMBERS;
+use store::NAME_LENGTH;
+use store::PLACE_LENGTH;
 use totals::SUMS;
 
 // What a refusal's number is multiplied by in an answer.
@@ -47,12 +49,27 @@ pub fn count(n: u64) {
     put(LINE_FEED);
 }
 
-pub fn bytes(list: &[u8]) {
-    put(b'b');
+fn octets(list: &[u8]) {
     let mut k = 0;
     while k < list.len() {
         octet(list[k]);
         k += 1;
+    }
+}
+
+pub fn bytes(list: &[u8]) {
+    put(b'b');
+    octets(list);
+    put(LINE_FEED);
+}
+
+// The names of a store's places, as the places hold them.
+pub fn names(store: &[u8]) {
+    put(b's');
+    let mut rest = store;
+    while PLACE_LENGTH <= rest.len() {
+        octets(&rest[..NAME_LENGTH]);
+        rest = &rest[PLACE_LENGTH..];
     }
     put(LINE_FEED);
 }

@@ -109,7 +109,7 @@ letters-most (b ∷ l) = go (isLetter b) (letters-most l)
     go false h = omega arith
 
 -- bytes that are letters, and zeros after them
-pub letters-padded : (l : List ℕ) (n : ℕ) → letters l ≡ length l → letters (l ++ replicate n 0) ≡ length l
+letters-padded : (l : List ℕ) (n : ℕ) → letters l ≡ length l → letters (l ++ replicate n 0) ≡ length l
 unfolding letters
 letters-padded [] zero e = refl
 letters-padded [] (suc n) e = refl

@@ -24,7 +24,7 @@ use Rattle.store.proofs.Bytes.{both, wrong, zero-front, same-self, same
 pub free-name : (p : List ℕ) → allZero p ≡ true → letters (nameIn p) ≡ 0
 free-name p z = no-letters (nameIn p) (zero-front nameLength p z)
 
-pub occupied-name : (p : List ℕ) → occupied p ≡ true → 0 < letters (nameIn p)
+occupied-name : (p : List ℕ) → occupied p ≡ true → 0 < letters (nameIn p)
 unfolding occupied validHeldName
 occupied-name p o =
     let t = both (validHeldName (nameIn p)) (validRoom (roomIn p)) o in
@@ -60,7 +60,7 @@ module _ (h : List ℕ) where
   pub unnamed : (ps : List (List ℕ)) → isNamed h ps ≡ false → Unnamed ps
   unnamed ps e = omega (arith, first-most ps, ltb-false (firstNamed h ps) (length ps) e)
 
-  pub not-named : (ps : List (List ℕ)) → Unnamed ps → isNamed h ps ≡ false
+  not-named : (ps : List (List ℕ)) → Unnamed ps → isNamed h ps ≡ false
   not-named ps e = le-ltb (firstNamed h ps) (length ps) (omega (arith, e))
 
   -- the rest of the places, where the first does not have the name

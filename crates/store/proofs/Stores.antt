@@ -127,7 +127,7 @@ file-long file e =
       most = omega (arith, n, held .valid .count-to);
     }
 
-pub accepted-is : {A : Type 0} (a : Answer A) → accepted a ≡ true → (x : A) × (a ≡ result x)
+accepted-is : {A : Type 0} (a : Answer A) → accepted a ≡ true → (x : A) × (a ≡ result x)
 accepted-is (result x) e = (x, refl)
 accepted-is (refused n k) e = absurd (wrong e)
 

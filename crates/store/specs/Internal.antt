@@ -21,6 +21,11 @@ pub record Begun (store name : List ℕ) : Type 0 where
   pub form : validStore store ≡ true
   pub named : validName name ≡ true
 
+-- and a buffer that has room for the longest file
+pub record Returnable (store name buffer : List ℕ) : Type 0 where
+  pub begun : Begun store name
+  pub room : mostFile ≤ length buffer
+
 -- a store of its length, and a name and a file that a place has room for
 pub record Keepable (store name file : List ℕ) : Type 0 where
   pub store-long : length store ≡ storeLength

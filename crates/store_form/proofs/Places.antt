@@ -37,15 +37,15 @@ module _ (store : List ℕ) where
 
   -- ---- the places from k on
 
-  pub next-place : (k : ℕ) → k < placeCount → drop k (places store) ≡ placeAt store k ∷ drop (suc k) (places store)
+  next-place : (k : ℕ) → k < placeCount → drop k (places store) ≡ placeAt store k ∷ drop (suc k) (places store)
   next-place k h =
       drop-cons (places store) k [] (omega (arith, places-long store))
       ∙ ap (λ p. p ∷ drop (suc k) (places store)) (place-is store k h)
 
-  pub no-place : (k : ℕ) → placeCount ≤ k → drop k (places store) ≡ []
+  no-place : (k : ℕ) → placeCount ≤ k → drop k (places store) ≡ []
   no-place k h = drop-of-length-le (places store) {i = k} (omega (arith, places-long store))
 
-  pub places-left : (k : ℕ) → length (drop k (places store)) ≡ placeCount - k
+  places-left : (k : ℕ) → length (drop k (places store)) ≡ placeCount - k
   places-left k = length-drop k (places store) ∙ ap (λ n. n - k) (places-long store)
 
   pub named : (k : ℕ) (held : List ℕ) {t : Bool} → k < placeCount → sameBytes (nameIn (placeAt store k)) held ≡ t → firstNamed held (drop k (places store)) ≡ cond t 0 (suc (firstNamed held (drop (suc k) (places store))))

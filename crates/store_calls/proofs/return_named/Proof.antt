@@ -16,19 +16,19 @@ use Rattle.store_calls.proofs.return_named.Tie as tie
 place-of-requires : tie.Need-place-of-requires
 place-of-requires c κs =
     let s = c .before .before .before in
-    (store-held (now (s .args .store)) (s .pre .0 .form) .long, name-held (now (s .args .name)) (s .pre .0 .named) .short)
+    (store-held (now (s .args .store)) (s .pre .begun .form) .long, name-held (now (s .args .name)) (s .pre .begun .named) .short)
 
 returns : tie.Need-returns
 returns c =
     let s = c .before .before .before .before .before in
     let k = c .before .place-of in
-    return-nothing (now (s .args .store)) (now (s .args .name)) (now (s .args .buffer)) (s .pre .0) (s .pre .1) (k .result) (k .ensures .0) (c .if1 .taken)
+    return-nothing (now (s .args .store)) (now (s .args .name)) (now (s .args .buffer)) (s .pre .begun) (s .pre .room) (k .result) (k .ensures .0) (c .if1 .taken)
 
 copy-file-requires : tie.Need-copy-file-requires
 copy-file-requires c κs =
     let s = c .before .before .before .before .before .before in
     let store = now (s .args .store) in
-    let b = s .pre .0 in
+    let b = s .pre .begun in
     let k = c .before .before .place-of in
     let long = store-held store (b .form) .long in
     let below : k .result < placeCount = omega (arith, k .ensures .1, c .before .if1 .left) in
@@ -36,7 +36,7 @@ copy-file-requires c κs =
       store-long = long;
       below = below;
       fits = occupied-fits (placeAt store (k .result)) (place-long store (k .result) long below) (found-occupied store (now (s .args .name)) (b .form) (b .named) (k .result) (k .ensures .0) below);
-      buffer-long = s .pre .1;
+      buffer-long = s .pre .room;
     }
 
 same-length : tie.Need-same-length
@@ -47,7 +47,7 @@ returns-2 c =
     let s = c .before .before .before .before .before .before .before .before .before in
     let k = c .before .before .before .before .before .place-of in
     let copied = c .before .before .copy-file .ensures in
-    let file = return-file (now (s .args .store)) (now (s .args .name)) (now (s .args .buffer)) (s .pre .0) (s .pre .1) (k .result) (k .ensures .0) (omega (arith, k .ensures .1, c .before .before .before .before .if1 .left)) in
+    let file = return-file (now (s .args .store)) (now (s .args .name)) (now (s .args .buffer)) (s .pre .begun) (s .pre .room) (k .result) (k .ensures .0) (omega (arith, k .ensures .1, c .before .before .before .before .if1 .left)) in
     record { answer = ap result (copied .0) ∙ file .answer; buffer-is = copied .1 ∙ file .buffer-is }
 
 pub return-named-spec : {M : Type 1} → statement M

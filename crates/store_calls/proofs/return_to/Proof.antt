@@ -34,7 +34,10 @@ return-named-requires c κs =
     let room = leb mostFile (length (now (s .args .buffer))) in
     let passed = checked-passed (form && room) (now (s .args .name)) done (begun (now (s .args .name)) (c .before .before .before .before .valid-buffers .ensures) (c .before .before .before .begin .ensures) (ap toldChanged (c .before .enum-told .given .1))) in
     let lent = both form room (passed .0) in
-    (record { form = lent .0; named = passed .1 .0 }, leb-true mostFile (length (now (s .args .buffer))) (lent .1))
+    record {
+      begun = record { form = lent .0; named = passed .1 .0 };
+      room = leb-true mostFile (length (now (s .args .buffer))) (lent .1);
+    }
 
 returns : tie.Need-returns
 returns c =

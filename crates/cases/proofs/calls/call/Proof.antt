@@ -21,7 +21,7 @@ slice-reshare-prefix-looking c = search needs
 slice-aggregate-looking : tie.Need-slice-aggregate-looking
 slice-aggregate-looking c =
     let begun = c .before in
-    front (begun .within .result) (begun .before .before .args .bytes .now) (omega arith)
+    front (begun .within .result) (begun .before .before .before .args .bytes .now) (omega arith)
 
 looking-requires : tie.Need-looking-requires
 looking-requires c κs = search needs
@@ -32,13 +32,16 @@ slice-relend-prefix-changing c = search needs
 slice-aggregate-changing : tie.Need-slice-aggregate-changing
 slice-aggregate-changing c =
     let begun = c .before .before .before in
-    front (begun .within .result) (begun .before .before .args .bytes .now) (omega arith)
+    front (begun .within .result) (begun .before .before .before .args .bytes .now) (omega arith)
 
 changing-requires : tie.Need-changing-requires
 changing-requires c κs = search needs
 
 same-length : tie.Need-same-length
 same-length c = search needs
+
+same-length-2 : tie.Need-same-length-2
+same-length-2 c = search needs
 
 returns : tie.Need-returns
 returns c = search needs
@@ -55,4 +58,5 @@ call-spec =
     slice-aggregate-changing
     changing-requires
     same-length
+    same-length-2
     returns)

@@ -4,7 +4,7 @@ use std::str::FromStr;
 
 use reference::GridBuffers;
 
-/// The room of a grid's buffer.
+/// The room of a grid's buffer, and of a name's.
 const NODES: usize = 24;
 
 /// A name, numbers and lists.

@@ -3,68 +3,22 @@
 //! what is printed.
 
 mod input;
+mod kept;
 mod output;
 
 use std::io;
 
 use input::{Line, List, Lists};
+use kept::{particle, Kept};
 use output::{answer, buffers, bytes, numbers, values};
-use reference::limits::{MAX_SET_LENGTH, RECORD_LENGTH};
 use reference::{
-    adding_scatter, check_set, gather, read_file, read_record, run, scatter, step, totals, update,
-    weights, write_header, write_record, Edge, Header, Particle, Settings, Size,
+    adding_scatter, check_set, forget, gather, keep, read_file, read_record, return_to, run,
+    scatter, step, totals, update, weights, write_header, write_record, Edge, Header, Settings,
+    Size,
 };
 
-/// The bytes that are kept from line to line, and how many of them a call is lent.
-struct Kept {
-    room: Vec<u8>,
-    end: usize,
-}
-
-impl Kept {
-    /// Room for one record more than a set may have.
-    fn new() -> Self {
-        Kept {
-            room: vec![0; MAX_SET_LENGTH + RECORD_LENGTH],
-            end: 0,
-        }
-    }
-
-    fn lent(&mut self) -> &mut [u8] {
-        &mut self.room[..self.end]
-    }
-
-    /// Records alike from a place on, with identifiers and marks that rise from the first one's.
-    fn fill(&mut self, from: usize, end: usize, fields: &[i128]) {
-        let mut record = particle(fields);
-        for part in self.room[from..].chunks_mut(RECORD_LENGTH) {
-            part.copy_from_slice(&record.pack()[..part.len()]);
-            record.identifier = record.identifier.wrapping_add(1);
-            record.marks = record.marks.wrapping_add(1);
-        }
-        self.end = end;
-    }
-
-    /// Each record's fields, or its bytes if it cannot be read.
-    fn shown(&self) -> String {
-        let records = self.room[..self.end].chunks(RECORD_LENGTH);
-        let shown = |record| match read_record(record) {
-            Ok(particle) => numbers('r', &particle.fields()),
-            Err(_) => bytes(record),
-        };
-        records.map(shown).collect()
-    }
-}
-
-fn particle(fields: &[i128]) -> Particle {
-    let &[identifier, mass, x, y, vx, vy, bxx, bxy, byx, byy, marks] = fields else {
-        panic!("not eleven fields: {fields:?}");
-    };
-    Particle::at_rest(identifier as u16, mass, x, y)
-        .moving(vx, vy)
-        .with_b([bxx, bxy, byx, byy])
-        .with_marks(marks as u8)
-}
+/// So many bytes of a buffer are printed behind a return.
+const SHOWN: usize = 48;
 
 fn settings(numbers: &[i128]) -> Settings {
     let &[nx, ny, gx, gy, kind, width, drag] = numbers else {
@@ -131,10 +85,26 @@ fn on_velocities(line: &Line, x: &List<i64>, y: &List<i64>, kept: &mut Kept) -> 
     Some(answer(gathered) + &kept.shown())
 }
 
+/// An operation on the store, whose list is a name.
+fn on_store(line: &Line, name: &[u8], kept: &mut Kept) -> Option<String> {
+    let (store, lent) = kept.lent_store();
+    let shown = match (line.name, &line.numbers[..]) {
+        ("keep", []) => answer(keep(store, name, lent)),
+        ("return", []) => {
+            let found = return_to(store, name, lent).map(|length| [length as i128]);
+            values('n', found) + &bytes(&lent[..lent.len().min(SHOWN)])
+        }
+        ("forget", []) => answer(forget(store, name)),
+        _ => return None,
+    };
+    Some(shown + &kept.names())
+}
+
 /// What a line's call prints, if there is such a line.
 fn called(line: &Line, kept: &mut Kept) -> Option<String> {
     match &line.lists[..] {
         [] => on_bytes(line, kept),
+        [name] => on_store(line, name.parse()?.lent(), kept),
         [x, y] => on_velocities(line, &x.parse()?, &y.parse()?, kept),
         [mass, x, y] => {
             let mut lists = Lists {
@@ -158,6 +128,9 @@ fn main() -> io::Result<()> {
         match (line.name, &line.numbers[..]) {
             ("records", &[from, end, ref fields @ ..]) => {
                 kept.fill(from as usize, end as usize, fields)
+            }
+            ("store", &[length, at, byte]) => {
+                kept.set(length as usize, at as usize, byte as u8);
             }
             _ => match called(&line, &mut kept) {
                 Some(shown) => print!("{shown}"),

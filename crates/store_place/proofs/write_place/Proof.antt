@@ -1,11 +1,11 @@
--- `store_calls::write_place` meets its contract: the name, and the file behind it, each with zeros after it. Assumes nothing.
+-- `store_place::write_place` meets its contract: the name, and the file behind it, each with zeros after it. Assumes nothing.
 use borrow.Author.Needs.{needs}
 use native.Mathlib.Omega.{arith}
 use mathlib.Core.Path.{sym}
 use denote.Ref.{now}
-use Rattle.store_calls.proofs.Places.{name-room, place-written}
-use Rattle.store_calls.proofs.write_place.Statement.{statement}
-use Rattle.store_calls.proofs.write_place.Tie as tie
+use Rattle.store_place.proofs.Places.{name-room, place-written}
+use Rattle.store_place.proofs.write_place.Statement.{statement}
+use Rattle.store_place.proofs.write_place.Tie as tie
 
 slice-relend-prefix-fill : tie.Need-slice-relend-prefix-fill
 slice-relend-prefix-fill c = search needs

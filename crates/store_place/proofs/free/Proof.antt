@@ -1,10 +1,10 @@
--- `store_calls::free` meets its contract: the part that is lent is the place. Assumes nothing.
+-- `store_place::free` meets its contract: the part that is lent is the place. Assumes nothing.
 use borrow.Author.Needs.{needs}
 use denote.Ref.{now}
 use Rattle.store.proofs.Stores.{free-long}
-use Rattle.store_calls.proofs.Places.{placed-there, place-cleared}
-use Rattle.store_calls.proofs.free.Statement.{statement}
-use Rattle.store_calls.proofs.free.Tie as tie
+use Rattle.store_place.proofs.Places.{placed-there, place-cleared}
+use Rattle.store_place.proofs.free.Statement.{statement}
+use Rattle.store_place.proofs.free.Tie as tie
 
 mul-at : tie.Need-mul-at
 mul-at c = search needs

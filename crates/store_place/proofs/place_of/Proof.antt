@@ -1,9 +1,9 @@
--- `store_calls::place_of` meets its contract: the array holds the name with zeros after it. Assumes nothing.
+-- `store_place::place_of` meets its contract: the array holds the name with zeros after it. Assumes nothing.
 use borrow.Author.Needs.{needs}
 use denote.Ref.{now}
-use Rattle.store_calls.proofs.Places.{name-place}
-use Rattle.store_calls.proofs.place_of.Statement.{statement}
-use Rattle.store_calls.proofs.place_of.Tie as tie
+use Rattle.store_place.proofs.Places.{name-place}
+use Rattle.store_place.proofs.place_of.Statement.{statement}
+use Rattle.store_place.proofs.place_of.Tie as tie
 
 slice-aggregate-fill : tie.Need-slice-aggregate-fill
 slice-aggregate-fill c = search needs

@@ -1,10 +1,10 @@
--- `store_calls::copy_file` meets its contract: the room that is cut out is the place's, and its front the file. Assumes nothing.
+-- `store_place::copy_file` meets its contract: the room that is cut out is the place's, and its front the file. Assumes nothing.
 use borrow.Author.Needs.{needs}
 use native.Mathlib.Omega.{arith}
 use denote.Ref.{now}
-use Rattle.store_calls.proofs.Places.{end-is, end-fits, file-copied}
-use Rattle.store_calls.proofs.copy_file.Statement.{statement}
-use Rattle.store_calls.proofs.copy_file.Tie as tie
+use Rattle.store_place.proofs.Places.{end-is, end-fits, file-copied}
+use Rattle.store_place.proofs.copy_file.Statement.{statement}
+use Rattle.store_place.proofs.copy_file.Tie as tie
 
 mul-at : tie.Need-mul-at
 mul-at c = search needs

@@ -84,17 +84,17 @@ module _ (store : List ℕ) (k : ℕ) (long : length store ≡ storeLength) (bel
   abbrev cut : List ℕ
   cut = take (start + mostFile - start) (drop start store)
 
-  pub room-cut : cut ≡ roomIn (placeAt store k)
+  room-cut : cut ≡ roomIn (placeAt store k)
   unfolding placeAt
   room-cut =
       ap₂ take {x = start + mostFile - start} {y = mostFile} (omega arith) (sym (drop-drop nameLength (placeLength * k) store))
       ∙ sym (drop-take nameLength mostFile (drop (placeLength * k) store) (omega (arith, length-drop (placeLength * k) store)))
 
-  pub room-long : length cut ≡ mostFile
+  room-long : length cut ≡ mostFile
   room-long = length-part start (start + mostFile - start) store (omega arith) ∙ omega arith
 
   module _ {end : ℕ} (e : end ≡ fileLength cut) where
-    pub file-cut : take end cut ≡ fileIn (placeAt store k)
+    file-cut : take end cut ≡ fileIn (placeAt store k)
     unfolding fileIn
     file-cut = ap₂ take (e ∙ ap fileLength room-cut) room-cut
 

@@ -1,18 +1,15 @@
--- `print::bytes` is safe and ends. The measure is what is left of the list. Assumes nothing.
+-- `print::octets` is safe and ends. The measure is what is left of the list. Assumes nothing.
 use Prim.Native.Nat.{_-_}
 use lib.ListN.{length}
 use borrow.Author.Needs.{needs}
-use Rattle.lines.proofs.print.bytes.Statement.{statement}
-use Rattle.lines.proofs.print.bytes.Tie as tie
+use Rattle.lines.proofs.print.octets.Statement.{statement}
+use Rattle.lines.proofs.print.octets.Tie as tie
 
 abbrev Inv-loop : tie.InvT-loop
 Inv-loop list k₀ k = Unit {0}
 
 abbrev μ-loop : tie.MeasureT-loop
 μ-loop list k₀ k = length list - k
-
-put-requires : tie.Need-put-requires Inv-loop μ-loop
-put-requires c κs = search needs
 
 loop-holds : tie.Need-loop-holds Inv-loop μ-loop
 loop-holds c = search needs
@@ -32,24 +29,19 @@ loop-less c = search needs
 loop-again : tie.Need-loop-again Inv-loop μ-loop
 loop-again c = search needs
 
-put-requires-2 : tie.Need-put-requires-2 Inv-loop μ-loop
-put-requires-2 c κs = search needs
-
 returns : tie.Need-returns Inv-loop μ-loop
 returns c = search needs
 
-pub bytes-spec : {M : Type 1} → statement M
-bytes-spec =
+pub octets-spec : {M : Type 1} → statement M
+octets-spec =
     tie.close
     (tie.spec
     Inv-loop
     μ-loop
-    put-requires
     loop-holds
     shared-slice-read-octet
     octet-requires
     add-k
     loop-less
     loop-again
-    put-requires-2
     returns)

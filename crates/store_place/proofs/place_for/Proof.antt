@@ -1,9 +1,9 @@
--- `store_calls::place_for` meets its contract. Assumes nothing.
+-- `store_place::place_for` meets its contract. Assumes nothing.
 use borrow.Author.Needs.{needs}
 use denote.Ref.{now}
-use Rattle.store_calls.proofs.Places.{held-place, free-place}
-use Rattle.store_calls.proofs.place_for.Statement.{statement}
-use Rattle.store_calls.proofs.place_for.Tie as tie
+use Rattle.store_place.proofs.Places.{held-place, free-place}
+use Rattle.store_place.proofs.place_for.Statement.{statement}
+use Rattle.store_place.proofs.place_for.Tie as tie
 
 place-of-requires : tie.Need-place-of-requires
 place-of-requires c κs = search needs

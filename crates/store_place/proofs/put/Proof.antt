@@ -1,10 +1,10 @@
--- `store_calls::put` meets its contract: the part that is lent is the place. Assumes nothing.
+-- `store_place::put` meets its contract: the part that is lent is the place. Assumes nothing.
 use borrow.Author.Needs.{needs}
 use denote.Ref.{now}
 use Rattle.store.proofs.Stores.{kept-long}
-use Rattle.store_calls.proofs.Places.{placed-there}
-use Rattle.store_calls.proofs.put.Statement.{statement}
-use Rattle.store_calls.proofs.put.Tie as tie
+use Rattle.store_place.proofs.Places.{placed-there}
+use Rattle.store_place.proofs.put.Statement.{statement}
+use Rattle.store_place.proofs.put.Tie as tie
 
 mul-at : tie.Need-mul-at
 mul-at c = search needs
