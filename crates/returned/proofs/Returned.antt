@@ -1,7 +1,7 @@
 -- What follows a return: `from-return`. The store stays of its form through every call, what it holds is an accepted file, and so the
 -- records behind the file's header are a start of demand 3. Assumes nothing.
-use mathlib.Core.Path.{_≡_, refl, sym, ap, _∙_}
-use mathlib.Core.Bool.{true, false, not}
+use mathlib.Core.Path.{_≡_, refl, sym, ap, subst, _∙_}
+use mathlib.Core.Bool.{true, false, not, false≢true}
 use mathlib.Core.List.{List, [], _∷_}
 use Prim.Native.Nat.{ℕ}
 use lib.ListN.{length}
@@ -11,11 +11,12 @@ use Rattle.bath_file.proofs.Records.{file-held}
 use Rattle.store.specs.Form.{validStore}
 use Rattle.store.specs.Operations.{returnAnswer}
 use Rattle.store.specs.Calls.{StoreCall, keep, return, forget}
-use Rattle.store.proofs.Bytes.{both, wrong}
+use Rattle.limits.proofs.Within.{both}
 use Rattle.store.proofs.Calls.{every-call, Returns, return-passed}
-use Rattle.simulation.specs.Demand3.{Accepted, leavesAll}
+use Rattle.particles.specs.Set.{particlesIn}
+use Rattle.simulation.specs.Demand3.{Accepted, leavesAll, completesAll, completedSteps, Keeps}
 use Rattle.simulation.proofs.Conserved.{demand-3}
-use Rattle.returned.specs.Returned.{Lent, MixedCall, onStore, onRecords, recordsIn, recordsAfter, after, afterAll, returns, noReturn, motions, FromReturn}
+use Rattle.returned.specs.Returned.{Lent, MixedCall, onStore, onRecords, recordsIn, recordsAfter, after, afterAll, returns, noReturn, motions, returnedTo, FromReturn}
 
 -- ---- the form
 
@@ -35,7 +36,7 @@ not-replaced (keep name file) l n = refl
 not-replaced (return name buffer) l n = go (returnAnswer (l .store) name buffer) n
   where
     go : (a : Answer (List ℕ)) → accepted a ≡ false → either a recordsIn (λ n k. l .records) ≡ l .records
-    go (result file) e = absurd (wrong (sym e))
+    go (result file) e = absurd (false≢true (sym e))
     go (refused n k) e = refl
 not-replaced (forget name) l n = refl
 
@@ -60,12 +61,16 @@ start-of store name file r =
     }
 
 pub from-return : FromReturn
-from-return start v before name buffer file calls e n =
-    let l = afterAll before start in
+from-return l name buffer file calls e n =
     let r = return-passed (l .store) name buffer e in
+    let moves = motions calls in
+    let bath = recordsIn file in
+    let is = moved calls (returnedTo l name buffer) n ∙ ap (leavesAll moves) (ap (λ a. either a recordsIn (λ n k. l .records)) e) in
+    let demand = demand-3 bath (start-of (l .store) name file r) moves in
     record {
       held = r .held;
-      records = moved calls (after (onStore (return name buffer)) l) n ∙ ap (leavesAll (motions calls)) (ap (λ a. either a recordsIn (λ n k. l .records)) e);
-      conserves = demand-3 (recordsIn file) (start-of (l .store) name file r) (motions calls);
-      form = kept-all calls (after (onStore (return name buffer)) l) (kept-all before start v);
+      records = is;
+      conserves = demand;
+      kept = subst (λ left. Keeps (completesAll moves bath) (completedSteps moves bath) (particlesIn bath) (particlesIn left)) (sym is) (demand .whole);
+      form = kept-all calls (returnedTo l name buffer) (r .form);
     }

@@ -16,7 +16,8 @@ use Rattle.bath_file.specs.Layout.{headerLength}
 use Rattle.store.specs.Form.{validStore, holds}
 use Rattle.store.specs.Operations.{returnAnswer}
 use Rattle.store.specs.Calls.{StoreCall, keep, return, forget, leavesStore}
-use Rattle.simulation.specs.Demand3.{Call, leaves, leavesAll, Keeps, Conserves}
+use Rattle.particles.specs.Set.{particlesIn}
+use Rattle.simulation.specs.Demand3.{Call, leaves, leavesAll, completesAll, completedSteps, Keeps, Conserves}
 
 -- the store and the records
 pub record Lent : Type 0 where
@@ -69,14 +70,19 @@ motions (onRecords c ∷ cs) = c ∷ motions cs
 pub record MeasuredFrom (l : Lent) (name file : List ℕ) (calls : List MixedCall) (left : Lent) : Type 0 where
   -- the file is what the store held under the name
   pub held : holds (l .store) name ≡ some file
-  -- the records are what the step and run calls leave of the file's
+  -- the records are what the step and run calls leave of the file's, for which demand 3 holds
   pub records : left .records ≡ leavesAll (motions calls) (recordsIn file)
-  -- which is demand 3 from these
   pub conserves : Conserves Keeps (motions calls) (recordsIn file)
+  -- so identifiers, masses, marks, momentum and spin of the records are those of the file's, within the allowances of the completed steps
+  pub kept : Keeps (completesAll (motions calls) (recordsIn file)) (completedSteps (motions calls) (recordsIn file)) (particlesIn (recordsIn file)) (particlesIn (left .records))
   -- and the store is of its form
   pub form : validStore (left .store) ≡ true
 
--- from any records and any store of the form, after any calls
+-- the store and the records after a return
+abbrev pub returnedTo : Lent → List ℕ → List ℕ → Lent
+returnedTo l name buffer = after (onStore (return name buffer)) l
+
+-- whatever the store and the records were, and so after any calls: what follows a return that is not refused, up to the next one
 abbrev pub FromReturn : Type 0
 FromReturn =
-    (start : Lent) → validStore (start .store) ≡ true → (before : List MixedCall) (name buffer file : List ℕ) (calls : List MixedCall) → (returnAnswer (afterAll before start .store) name buffer ≡ result file) → (noReturn calls (after (onStore (return name buffer)) (afterAll before start)) ≡ true) → MeasuredFrom (afterAll before start) name file calls (afterAll calls (after (onStore (return name buffer)) (afterAll before start)))
+    (l : Lent) (name buffer file : List ℕ) (calls : List MixedCall) → returnAnswer (l .store) name buffer ≡ result file → noReturn calls (returnedTo l name buffer) ≡ true → MeasuredFrom l name file calls (afterAll calls (returnedTo l name buffer))

@@ -109,8 +109,19 @@ module _ (store name file : List ℕ) where
 
 -- ---- forget
 
-pub forget-passed : (store name : List ℕ) {k : ℕ} → forgetAnswer store name ≡ result k → (validName name ≡ true) × ((placeOf store name ≡ k) × (k < placeCount))
-unfolding forgetAnswer
-forget-passed store name e =
-    let c = checked-passed (validStore store) name (refuseIf (not (ltb (placeOf store name) placeCount)) 23 0 (result (placeOf store name))) e in
-    (c .1 .0, place-passed 23 (placeOf store name) (c .1 .1))
+module _ (store name : List ℕ) where
+  abbrev at-name : Answer ℕ
+  at-name = refuseIf (not (ltb (placeOf store name) placeCount)) 23 0 (result (placeOf store name))
+
+  pub record ForgetPassed (k : ℕ) : Type 0 where
+    pub form : validStore store ≡ true
+    pub named : validName name ≡ true
+    pub place : placeOf store name ≡ k
+    pub below : k < placeCount
+
+  pub forget-passed : {k : ℕ} → forgetAnswer store name ≡ result k → ForgetPassed k
+  unfolding forgetAnswer
+  forget-passed e =
+      let c = checked-passed (validStore store) name at-name e in
+      let p = place-passed 23 (placeOf store name) (c .1 .1) in
+      record { form = c .0; named = c .1 .0; place = p .0; below = p .1 }

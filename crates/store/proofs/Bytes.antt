@@ -4,10 +4,11 @@
 --     padded-length, padded-take, padded-drop  bytes with zeros after them
 --     letters-most, letters-padded             the letters that bytes begin with
 --     NameHeld, name-held                      what a valid name says
---     same-name, no-name, held-name            a valid name as a place holds it: no two have the same, none has no letter
+--     held-letters, same-name, held-name       a valid name as a place holds it: no two have the same
+--     no-letters                               zeros begin with no letter
 -- Assumes nothing.
-use mathlib.Core.Path.{_≡_, refl, sym, ap, ap₂, subst, _∙_}
-use mathlib.Core.Bool.{Bool, true, false, cond, _&&_}
+use mathlib.Core.Path.{_≡_, refl, sym, ap, ap₂, _∙_}
+use mathlib.Core.Bool.{Bool, true, false, cond, _&&_, false≢true}
 use mathlib.Core.List.{List, [], _∷_, _++_}
 use Prim.Native.Nat.{ℕ, zero, suc, _+_, _-_, _≤_}
 use native.Mathlib.Omega.{arith}
@@ -15,16 +16,8 @@ use borrow.Author.Tests.{eqb-true, eq-eqb, leb-true, lt-ltb}
 use lib.Dec.{eqb, leb, ltb}
 use lib.ListN.{length, take, drop, replicate, length-append, length-replicate, take-append-drop}
 use lib.Seq.{take-at, drop-at}
+use Rattle.limits.proofs.Within.{both}
 use Rattle.store.specs.Names.{nameLength, allZero, sameBytes, padded, isLetter, letters, validName, validHeldName}
-
--- ---- two tests
-
-pub wrong : _≡_ {A = Bool} false true → ⊥
-wrong q = subst (λ (t : Bool). cond t ⊥ Unit) q tt
-
-pub both : (a b : Bool) → (a && b) ≡ true → (a ≡ true) × (b ≡ true)
-both true b e = (refl, e)
-both false b e = absurd (wrong e)
 
 -- ---- zeros
 
@@ -69,8 +62,8 @@ same-self (b ∷ l) = ap₂ _&&_ (eq-eqb b b refl) (same-self l)
 pub same-is : (l m : List ℕ) → sameBytes l m ≡ true → l ≡ m
 unfolding sameBytes
 same-is [] [] e = refl
-same-is [] (c ∷ m) e = absurd (wrong e)
-same-is (b ∷ l) [] e = absurd (wrong e)
+same-is [] (c ∷ m) e = absurd (false≢true e)
+same-is (b ∷ l) [] e = absurd (false≢true e)
 same-is (b ∷ l) (c ∷ m) e =
     let t = both (eqb b c) (sameBytes l m) e in
     ap₂ _∷_ (eqb-true b c (t .0)) (same-is l m (t .1))

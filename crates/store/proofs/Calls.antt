@@ -1,10 +1,13 @@
 -- Keep, return and forget, way by way, and over lists of calls: `every-call` and `every-list-of-calls`.
---     StoreHeld, store-held                   what a store of the form says
---     Held, held                              what stands under a name is an accepted file, in a place of the store
---     every-call, every-list-of-calls         the statements of specs/Calls.antt
+--     StoreHeld, store-held, held-store       what a store of the form says, and back
+--     holds-is, holds-nothing                 what stands under a valid name, and under no other
+--     Takes, has, lacks, chosen               the place that a call changes
+--     every-call, every-list-of-calls         statements of specs/Calls.antt
+--     found, not-found, found-occupied        what stands under a name, by its place
+--     Returns, return-passed                  what a return that is not refused says
 -- Assumes nothing.
 use mathlib.Core.Path.{_≡_, refl, sym, ap, ap₂, subst, _∙_}
-use mathlib.Core.Bool.{Bool, true, false, cond, _&&_, and-true}
+use mathlib.Core.Bool.{Bool, true, false, cond, _&&_, and-true, false≢true}
 use mathlib.Core.List.{List, [], _∷_}
 use mathlib.Core.Option.{Option, none, some}
 use Prim.Native.Nat.{ℕ, suc, _-_, _≤_, _<_}
@@ -20,9 +23,10 @@ use Rattle.store.specs.Names.{nameLength, allZero, sameBytes, padded, le
 use Rattle.store.specs.Form.{mostFile, placeLength, placeCount, storeLength, nameIn, fileIn, occupied, placeAt, places, firstNamed, validPlaces, validStore, placeOf, fileUnder, holds}
 use Rattle.store.specs.Operations.{checkedCall, withPlace, placeFor, keptPlace, keepAnswer, keepLeaves, heldAnswer, returnAnswer, freePlace, forgetAnswer, forgetLeaves}
 use Rattle.store.specs.Calls.{StoreCall, keep, return, forget, leavesStore, CallKeeps, EveryCall, leavesStoreAll, lastLeft, EveryListOfCalls}
-use Rattle.store.proofs.Bytes.{both, wrong, same-self, same-is, not-same, name-held, held-letters, same-name, no-letters}
+use Rattle.limits.proofs.Within.{both}
+use Rattle.store.proofs.Bytes.{same-self, same-is, not-same, name-held, held-letters, same-name, no-letters}
 use Rattle.store.proofs.Answers.{checked-passed, keep-passed, forget-passed}
-use Rattle.store.proofs.Places.{free-name, first-most, under-found, under-none, Unnamed, unnamed-behind, alone, held-accepted, set-named, set-other, set-freed, form-kept, form-freed}
+use Rattle.store.proofs.Places.{free-name, first-most, under-found, under-none, Unnamed, unnamed-behind, alone, held-occupied, set-named, set-other, set-freed, form-kept, form-freed}
 use Rattle.store.proofs.Stores.{places-long, place-is, with-long, places-with, file-long, kept-long, kept-name, kept-file, kept-occupied, free-long, free-zero, occupied-file}
 
 -- ---- a store of the form
@@ -210,7 +214,7 @@ changes store left name there v at elsewhere n = go (sameBytes name n) refl (val
   where
     go : (same : Bool) → sameBytes name n ≡ same → (valid : Bool) → validName n ≡ valid → holds left n ≡ cond same there (holds store n)
     go true e valid f = ap (holds left) (sym (same-is name n e)) ∙ at
-    go false e true f = elsewhere n f (λ is. wrong (sym e ∙ ap (sameBytes name) (sym is) ∙ same-self name))
+    go false e true f = elsewhere n f (λ is. false≢true (sym e ∙ ap (sameBytes name) (sym is) ∙ same-self name))
     go false e false f = holds-nothing left n f ∙ sym (holds-nothing store n f)
 
 -- a refused call leaves everything
@@ -218,54 +222,85 @@ nothing-changes : (same : Bool) {A : Type 0} (a b : A) → a ≡ cond (same && f
 nothing-changes true a b = refl
 nothing-changes false a b = refl
 
-keep-keeps : (store : List ℕ) → validStore store ≡ true → (name file : List ℕ) → CallKeeps (keep name file) store
-unfolding keepLeaves
-keep-keeps store valid name file = go (keepAnswer store name file) refl
-  where
-    go : (a : Answer ℕ) → keepAnswer store name file ≡ a → CallKeeps (keep name file) store
-    go (refused n k) e =
-        let left : keepLeaves store name file ≡ store = ap (λ a. either a (λ k. withPlace store k (keptPlace name file)) (λ n k. store)) e in
+-- what a call leaves that puts `new` where it is accepted, and at its name `there`
+module _ (store name : List ℕ) (there : Option (List ℕ)) (new : ℕ → List ℕ) where
+  abbrev Leaving : Answer ℕ → Type 0
+  Leaving a = (m : List ℕ) → holds (either a new (λ n k. store)) m ≡ cond (sameBytes name m && accepted a) there (holds store m)
+
+  refused-leaves : (a : Answer ℕ) {n k : ℕ} → a ≡ refused n k → Leaving a
+  refused-leaves a e = subst Leaving (sym e) (λ m. nothing-changes (sameBytes name m) (holds store m) there)
+
+  accepted-leaves : (a : Answer ℕ) {k : ℕ} → a ≡ result k → validName name ≡ true → holds (new k) name ≡ there → ((n : List ℕ) → validName n ≡ true → (name ≡ n → ⊥) → holds (new k) n ≡ holds store n) → Leaving a
+  accepted-leaves a {k} e v at elsewhere =
+      subst Leaving (sym e)
+      (λ m. changes store (new k) name there v at elsewhere m ∙ ap (λ b. cond b there (holds store m)) (sym (and-true (sameBytes name m))))
+
+  -- its form
+  left-valid : (a : Answer ℕ) {left : List ℕ} → either a new (λ n k. store) ≡ left → validStore left ≡ true → validStore (either a new (λ n k. store)) ≡ true
+  left-valid a e v = ap validStore e ∙ v
+
+module _ (store : List ℕ) (valid : validStore store ≡ true) where
+  abbrev formed : StoreHeld store
+  formed = store-held store valid
+
+  module _ (name file : List ℕ) where
+    abbrev kept-at : ℕ → List ℕ
+    kept-at k = withPlace store k (keptPlace name file)
+
+    keep-refused : {n k : ℕ} → keepAnswer store name file ≡ refused n k → CallKeeps (keep name file) store
+    unfolding keepLeaves
+    keep-refused e =
         record {
-          form = ap validStore left ∙ valid;
-          under = λ m. ap (λ l. holds l m) left ∙ nothing-changes (sameBytes name m) (holds store m) (some file) ∙ ap (λ a. cond (sameBytes name m && accepted a) (some file) (holds store m)) (sym e);
+          form = left-valid store name (some file) kept-at (keepAnswer store name file) (ap (λ a. either a kept-at (λ n k. store)) e) valid;
+          under = refused-leaves store name (some file) kept-at (keepAnswer store name file) e;
         }
-    go (result k) e =
+
+    keep-accepted : {k : ℕ} → keepAnswer store name file ≡ result k → CallKeeps (keep name file) store
+    unfolding keepLeaves
+    keep-accepted {k} e =
         let p = keep-passed store name file e in
         let v = p .named in
-        let s = store-held store valid in
-        let f = p .accepts in
-        let t = chosen store s name v k (p .place) (p .below) in
-        let left : keepLeaves store name file ≡ withPlace store k (keptPlace name file) = ap (λ a. either a (λ k. withPlace store k (keptPlace name file)) (λ n k. store)) e in
+        let t = chosen store formed name v k (p .place) (p .below) in
         record {
-          form = ap validStore left ∙ kept-form store s name v file f k t;
-          under = λ m. ap (λ l. holds l m) left ∙ changes store (withPlace store k (keptPlace name file)) name (some file) v (kept-under store s name v file f k t) (kept-elsewhere store s name v file f k t) m ∙ ap (λ b. cond b (some file) (holds store m)) (sym (and-true (sameBytes name m))) ∙ ap (λ a. cond (sameBytes name m && accepted a) (some file) (holds store m)) (sym e);
+          form = left-valid store name (some file) kept-at (keepAnswer store name file) (ap (λ a. either a kept-at (λ n k. store)) e) (kept-form store formed name v file (p .accepts) k t);
+          under =
+              accepted-leaves store name (some file) kept-at (keepAnswer store name file) e v (kept-under store formed name v file (p .accepts) k t) (kept-elsewhere store formed name v file (p .accepts) k t);
         }
 
-forget-keeps : (store : List ℕ) → validStore store ≡ true → (name : List ℕ) → CallKeeps (forget name) store
-unfolding forgetLeaves
-forget-keeps store valid name = go (forgetAnswer store name) refl
-  where
-    go : (a : Answer ℕ) → forgetAnswer store name ≡ a → CallKeeps (forget name) store
-    go (refused n k) e =
-        let left : forgetLeaves store name ≡ store = ap (λ a. either a (λ k. withPlace store k freePlace) (λ n k. store)) e in
-        record {
-          form = ap validStore left ∙ valid;
-          under = λ m. ap (λ l. holds l m) left ∙ nothing-changes (sameBytes name m) (holds store m) none ∙ ap (λ a. cond (sameBytes name m && accepted a) none (holds store m)) (sym e);
-        }
-    go (result k) e =
+    keep-keeps : (a : Answer ℕ) → keepAnswer store name file ≡ a → CallKeeps (keep name file) store
+    keep-keeps (result k) e = keep-accepted e
+    keep-keeps (refused n k) e = keep-refused e
+
+  module _ (name : List ℕ) where
+    abbrev freed-at : ℕ → List ℕ
+    freed-at k = withPlace store k freePlace
+
+    forget-accepted : {k : ℕ} → forgetAnswer store name ≡ result k → CallKeeps (forget name) store
+    unfolding forgetLeaves
+    forget-accepted {k} e =
         let p = forget-passed store name e in
-        let v = p .0 in
-        let s = store-held store valid in
-        let left : forgetLeaves store name ≡ withPlace store k freePlace = ap (λ a. either a (λ k. withPlace store k freePlace) (λ n k. store)) e in
+        let v = p .named in
         record {
-          form = ap validStore left ∙ freed-form store s name v k (p .1 .0) (p .1 .1);
-          under = λ m. ap (λ l. holds l m) left ∙ changes store (withPlace store k freePlace) name none v (freed-under store s name v k (p .1 .0) (p .1 .1)) (freed-elsewhere store s name v k (p .1 .0) (p .1 .1)) m ∙ ap (λ b. cond b none (holds store m)) (sym (and-true (sameBytes name m))) ∙ ap (λ a. cond (sameBytes name m && accepted a) none (holds store m)) (sym e);
+          form = left-valid store name none freed-at (forgetAnswer store name) (ap (λ a. either a freed-at (λ n k. store)) e) (freed-form store formed name v k (p .place) (p .below));
+          under = accepted-leaves store name none freed-at (forgetAnswer store name) e v (freed-under store formed name v k (p .place) (p .below)) (freed-elsewhere store formed name v k (p .place) (p .below));
         }
+
+    forget-refused : {n k : ℕ} → forgetAnswer store name ≡ refused n k → CallKeeps (forget name) store
+    unfolding forgetLeaves
+    forget-refused e =
+        record {
+          form = left-valid store name none freed-at (forgetAnswer store name) (ap (λ a. either a freed-at (λ n k. store)) e) valid;
+          under = refused-leaves store name none freed-at (forgetAnswer store name) e;
+        }
+
+    forget-keeps : (a : Answer ℕ) → forgetAnswer store name ≡ a → CallKeeps (forget name) store
+    forget-keeps (result k) e = forget-accepted e
+    forget-keeps (refused n k) e = forget-refused e
 
 pub every-call : EveryCall
-every-call store valid (keep name file) = keep-keeps store valid name file
+every-call store valid (keep name file) = keep-keeps store valid name file (keepAnswer store name file) refl
 every-call store valid (return name buffer) = record { form = valid; under = λ m. refl }
-every-call store valid (forget name) = forget-keeps store valid name
+every-call store valid (forget name) = forget-keeps store valid name (forgetAnswer store name) refl
 
 -- ---- lists of calls
 
@@ -313,9 +348,10 @@ pub found-occupied : (store name : List ℕ) → validStore store ≡ true → v
 unfolding placeOf
 found-occupied store name valid v k e l =
     ap occupied (sym (ap (λ j. getD (places store) j []) (sym e) ∙ place-is store k l))
-    ∙ held-accepted (held name v) (some-letter name v) (places store) (store-held store valid .valid) (subst (λ n. n < length (places store)) e (subst (λ n. k < n) (sym (places-long store)) l))
+    ∙ held-occupied (held name v) (some-letter name v) (places store) (store-held store valid .valid) (subst (λ n. n < length (places store)) e (subst (λ n. k < n) (sym (places-long store)) l))
 
 pub record Returns (store name file : List ℕ) : Type 0 where
+  pub form : validStore store ≡ true
   pub held : holds store name ≡ some file
   pub header : Header
   pub accepts : fileAnswer file ≡ result header
@@ -333,5 +369,5 @@ return-passed store name buffer {file} e =
         let is = found store name v (placeOf store name) refl l in
         let a = occupied-file (placeAt store (placeOf store name)) (found-occupied store name valid v (placeOf store name) refl l) in
         let same : fileIn (placeAt store (placeOf store name)) ≡ file = same-result (sym (ap heldAnswer is) ∙ r) in
-        record { held = is ∙ ap some same; header = a .0; accepts = subst (λ g. fileAnswer g ≡ result (a .0)) same (a .1) }
+        record { form = valid; held = is ∙ ap some same; header = a .0; accepts = subst (λ g. fileAnswer g ≡ result (a .0)) same (a .1) }
     go valid v false f r = not-result (sym (ap heldAnswer (not-found store name v (ltb-false (placeOf store name) placeCount f))) ∙ r)

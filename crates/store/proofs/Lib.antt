@@ -4,5 +4,6 @@ pub mod Places
 pub mod Stores
 pub mod Calls
 pub mod Ways
+pub mod Tells
 pub mod Empty
 pub mod Worked

@@ -1,12 +1,13 @@
 -- Laws of a list of places, of any number: which of them has a name, what stands under it, and what a changed place changes.
---     first-most, first-here, under-found, under-none    the first place with a name
+--     free-name, occupied-name                           a place's name
+--     first-most, under-found, under-none                the first place with a name
 --     Unnamed, unnamed, unnamed-behind, alone            a name that no place has, and one that no other has
 --     set-named, set-other, set-freed                    what stands under a name when place k is another
 --     form-kept, form-freed                              the form, then
---     held-accepted                                      what stands under a name is a file that is accepted
+--     held-occupied                                      the place with a name is occupied
 -- Assumes nothing.
 use mathlib.Core.Path.{_≡_, refl, sym, ap, ap₂, subst, _∙_}
-use mathlib.Core.Bool.{Bool, true, false, not, cond, _&&_, _||_, or-true}
+use mathlib.Core.Bool.{Bool, true, false, not, cond, _&&_, _||_, or-true, false≢true}
 use mathlib.Core.List.{List, [], _∷_}
 use mathlib.Core.Option.{none, some}
 use Prim.Native.Nat.{ℕ, zero, suc, _-_, _≤_, _<_}
@@ -16,7 +17,8 @@ use lib.Dec.{ltb}
 use lib.ListN.{length, getD, set, drop}
 use Rattle.store.specs.Names.{nameLength, allZero, sameBytes, letters, validHeldName}
 use Rattle.store.specs.Form.{nameIn, roomIn, fileIn, validRoom, occupied, firstNamed, isNamed, validPlaces, fileUnder}
-use Rattle.store.proofs.Bytes.{both, wrong, zero-front, same-self, same-is, not-same, no-letters}
+use Rattle.limits.proofs.Within.{both}
+use Rattle.store.proofs.Bytes.{zero-front, same-self, same-is, not-same, no-letters}
 
 -- ---- one place
 
@@ -24,7 +26,7 @@ use Rattle.store.proofs.Bytes.{both, wrong, zero-front, same-self, same
 pub free-name : (p : List ℕ) → allZero p ≡ true → letters (nameIn p) ≡ 0
 free-name p z = no-letters (nameIn p) (zero-front nameLength p z)
 
-occupied-name : (p : List ℕ) → occupied p ≡ true → 0 < letters (nameIn p)
+pub occupied-name : (p : List ℕ) → occupied p ≡ true → 0 < letters (nameIn p)
 unfolding occupied validHeldName
 occupied-name p o =
     let t = both (validHeldName (nameIn p)) (validRoom (roomIn p)) o in
@@ -92,7 +94,7 @@ pub record Good (p : List ℕ) (ps : List (List ℕ)) : Type 0 where
   pub either : (allZero p || occupied p && not (isNamed (nameIn p) ps)) ≡ true
   pub rest : validPlaces ps ≡ true
 
-good : (p : List ℕ) (ps : List (List ℕ)) → validPlaces (p ∷ ps) ≡ true → Good p ps
+pub good : (p : List ℕ) (ps : List (List ℕ)) → validPlaces (p ∷ ps) ≡ true → Good p ps
 unfolding validPlaces
 good p ps v =
     let t = both (allZero p || occupied p && not (isNamed (nameIn p) ps)) (validPlaces ps) v in
@@ -121,11 +123,11 @@ module _ (h : List ℕ) (some-letter : 0 < letters h) where
           subst (λ n. Unnamed n ps) is (taken p ps (good p ps v) (subst (λ n. 0 < letters n) (sym is) some-letter) .1)
       go false e l more = more (omega arith)
 
-  -- what stands under a name is a file that is accepted
-  pub held-accepted : (ps : List (List ℕ)) → validPlaces ps ≡ true → firstNamed h ps < length ps → occupied (getD ps (firstNamed h ps) []) ≡ true
+  -- the place with a name is occupied
+  pub held-occupied : (ps : List (List ℕ)) → validPlaces ps ≡ true → firstNamed h ps < length ps → occupied (getD ps (firstNamed h ps) []) ≡ true
   unfolding firstNamed
-  held-accepted [] v l = absurd (omega arith)
-  held-accepted (p ∷ ps) v l = go (sameBytes (nameIn p) h) refl l (held-accepted ps (good p ps v .rest))
+  held-occupied [] v l = absurd (omega arith)
+  held-occupied (p ∷ ps) v l = go (sameBytes (nameIn p) h) refl l (held-occupied ps (good p ps v .rest))
     where
       go : (t : Bool) → sameBytes (nameIn p) h ≡ t → cond t 0 (suc (firstNamed h ps)) < suc (length ps) → (firstNamed h ps < length ps → occupied (getD ps (firstNamed h ps) []) ≡ true) → occupied (getD (p ∷ ps) (cond t 0 (suc (firstNamed h ps))) []) ≡ true
       go true e l more = taken p ps (good p ps v) (subst (λ n. 0 < letters n) (sym (same-is (nameIn p) h e)) some-letter) .0
@@ -171,7 +173,7 @@ module _ (q : List ℕ) where
         ∙ ap suc (set-freed ps k (omega arith) (tail (sameBytes (nameIn p) h) (n .0) e) u)
       where
         tail : (t : Bool) → t ≡ false → suc k ≡ cond t 0 (suc (firstNamed h ps)) → k ≡ firstNamed h ps
-        tail true f e = absurd (wrong (sym f))
+        tail true f e = absurd (false≢true (sym f))
         tail false f e = omega arith
 
   -- ---- and the form stays
@@ -197,7 +199,7 @@ module _ (q : List ℕ) where
       (λ _. set-unnamed (nameIn p) (turned (n .0)) ps k)
     where
       turned : sameBytes (nameIn p) (nameIn q) ≡ false → sameBytes (nameIn q) (nameIn p) ≡ false
-      turned e = not-same (nameIn q) (nameIn p) (λ s. wrong (sym (subst (λ m. sameBytes m (nameIn q) ≡ false) (sym s) e) ∙ same-self (nameIn q)))
+      turned e = not-same (nameIn q) (nameIn p) (λ s. false≢true (sym (subst (λ m. sameBytes m (nameIn q) ≡ false) (sym s) e) ∙ same-self (nameIn q)))
 
   pub form-freed : (ps : List (List ℕ)) (k : ℕ) → validPlaces ps ≡ true → allZero q ≡ true → validPlaces (set ps k q) ≡ true
   unfolding validPlaces

@@ -8,7 +8,7 @@
 --     occupied-file, occupied-fits         what an occupied place holds
 -- Assumes nothing.
 use mathlib.Core.Path.{_≡_, refl, sym, ap, ap₂, subst, _∙_}
-use mathlib.Core.Bool.{Bool, true, false, _&&_}
+use mathlib.Core.Bool.{Bool, true, false, _&&_, false≢true}
 use mathlib.Core.List.{List, [], _++_}
 use Prim.Native.Nat.{ℕ, _+_, _-_, _*_, _≤_, _<_}
 use native.Mathlib.Omega.{arith}
@@ -27,7 +27,8 @@ use Rattle.bath_file.proofs.Answers.{header-held, records-passed}
 use Rattle.store.specs.Names.{nameLength, allZero, padded, validName, validHeldName}
 use Rattle.store.specs.Form.{mostFile, placeLength, placeCount, storeLength, nameIn, roomIn, fileLength, fileIn, validRoom, occupied, placeAt, places}
 use Rattle.store.specs.Operations.{withPlace, keptPlace, freePlace}
-use Rattle.store.proofs.Bytes.{both, wrong, zero-zeros, padded-length, padded-take, padded-drop, held-name}
+use Rattle.limits.proofs.Within.{both}
+use Rattle.store.proofs.Bytes.{zero-zeros, padded-length, padded-take, padded-drop, held-name}
 
 -- ---- the places
 
@@ -127,9 +128,9 @@ file-long file e =
       most = omega (arith, n, held .valid .count-to);
     }
 
-accepted-is : {A : Type 0} (a : Answer A) → accepted a ≡ true → (x : A) × (a ≡ result x)
+pub accepted-is : {A : Type 0} (a : Answer A) → accepted a ≡ true → (x : A) × (a ≡ result x)
 accepted-is (result x) e = (x, refl)
-accepted-is (refused n k) e = absurd (wrong e)
+accepted-is (refused n k) e = absurd (false≢true e)
 
 -- ---- a place that a keep writes
 

@@ -1,20 +1,50 @@
--- Document 02, Paper 8, over lists of keep, return and forget, refused calls included: the store stays of its form, and under each
--- name stands what the last keep or forget of that name that was not refused left, or what stood there at the start.
+-- Document 02, Paper 8: what keep and forget answer, by what the store holds; and over lists of keep, return and forget, refused calls
+-- included: the store stays of its form, and under each name stands what the last keep or forget of that name that was not refused
+-- left, or what stood there at the start.
+--     HeldIsAccepted, KeepTells, ForgetTells, ForgetFrees    the answers, by what is held
 --     emptyStore, ZerosAreEmpty  a store of zeros
 --     leavesUnder, CallKeeps    what one call changes: at its name alone
 --     lastLeft, CallsKeep       a list of calls
 -- Assumes nothing.
 use mathlib.Core.Path.{_≡_}
-use mathlib.Core.Bool.{true, cond, _&&_}
+use mathlib.Core.Bool.{Bool, true, false, not, cond, _&&_}
 use mathlib.Core.List.{List, [], _∷_}
 use mathlib.Core.Option.{Option, none, some}
 use Prim.Native.Nat.{ℕ}
-use lib.Dec.{leb}
+use lib.Dec.{leb, eqb}
 use lib.ListN.{length, replicate}
-use Rattle.refusal.specs.Refused.{accepted}
+use Rattle.refusal.specs.Refused.{refuseIf, andThen, accepted, toldOf, done}
+use Rattle.bath_file.specs.File.{fileAnswer}
 use Rattle.store.specs.Names.{sameBytes}
-use Rattle.store.specs.Form.{mostFile, storeLength, validStore, holds}
+use Rattle.store.specs.Form.{mostFile, placeCount, storeLength, places, validStore, heldCount, holds}
 use Rattle.store.specs.Operations.{checkedCall, keepAnswer, keepLeaves, heldAnswer, returnAnswer, forgetAnswer, forgetLeaves}
+
+-- ---- what a call answers, by what the store holds
+
+abbrev pub isHeld : Option (List ℕ) → Bool
+isHeld none = false
+isHeld (some file) = true
+
+-- a file that is held is one that the bench accepts
+abbrev pub HeldIsAccepted : Type 0
+HeldIsAccepted = (store name file : List ℕ) → validStore store ≡ true → holds store name ≡ some file → accepted (fileAnswer file) ≡ true
+
+-- 24 comes exactly where the name is not held and four others are
+abbrev pub KeepTells : Type 0
+KeepTells =
+    (store name file : List ℕ) → toldOf (keepAnswer store name file) ≡ checkedCall (validStore store) name (andThen (fileAnswer file) (λ _. refuseIf (not (isHeld (holds store name)) && eqb (heldCount (places store)) placeCount) 24 0 done))
+
+-- 23 comes exactly where the name is not held
+abbrev pub ForgetTells : Type 0
+ForgetTells = (store name : List ℕ) → toldOf (forgetAnswer store name) ≡ toldOf (checkedCall (validStore store) name (heldAnswer (holds store name)))
+
+-- every bath may be kept under every name: 24 does not come
+abbrev pub HasRoom : List ℕ → Type 0
+HasRoom store = (name file : List ℕ) → toldOf (keepAnswer store name file) ≡ toldOf (checkedCall (validStore store) name (fileAnswer file))
+
+-- a forget makes its place usable again
+abbrev pub ForgetFrees : Type 0
+ForgetFrees = (store name : List ℕ) → accepted (forgetAnswer store name) ≡ true → HasRoom (forgetLeaves store name)
 
 -- ---- all zero is an empty store
 
@@ -24,6 +54,7 @@ emptyStore = replicate storeLength 0
 pub record Empty (store : List ℕ) : Type 0 where
   pub form : validStore store ≡ true
   pub nothing : (name : List ℕ) → holds store name ≡ none
+  pub room : HasRoom store
 
 abbrev pub ZerosAreEmpty : Type 0
 ZerosAreEmpty = Empty emptyStore

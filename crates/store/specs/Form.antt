@@ -84,6 +84,11 @@ validPlaces (p ∷ ps) = (allZero p || occupied p && not (isNamed (nameIn p) ps)
 unfoldable pub validStore : List ℕ → Bool
 validStore store = eqb (length store) storeLength && validPlaces (places store)
 
+-- how many places are not free
+unfoldable pub heldCount : List (List ℕ) → ℕ
+heldCount [] = 0
+heldCount (p ∷ ps) = cond (allZero p) (heldCount ps) (suc (heldCount ps))
+
 -- ---- what a store holds
 
 -- the place that has a name, or 4 where none has

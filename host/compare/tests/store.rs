@@ -267,7 +267,7 @@ fn four_of_the_largest_baths() {
     assert!(store == vec![0; STORE_LENGTH]);
 }
 
-/// A size that a full set of 4 by 4 nodes has not: a store is judged by each file's own header.
+/// A store takes baths of different sizes: each file is judged by its own header.
 #[test]
 fn baths_of_different_sizes() {
     let mut numbers = stream("baths of different sizes", 0);

@@ -15,7 +15,7 @@ same-length c = search needs
 returns : tie.Need-returns
 returns c =
     let s = c .before .before .before .before .before .before in
-    keeps-full (now (s .args .store)) (now (s .args .name)) (now (s .args .file)) (c .before .place-for .result) (c .before .place-for .ensures .0) (c .if1 .taken)
+    keeps-full (now (s .args .store)) (now (s .args .name)) (now (s .args .file)) (c .before .place-for .result) (c .before .place-for .ensures .0) (omega (arith, c .before .place-for .ensures .1, c .if1 .taken))
 
 put-requires : tie.Need-put-requires
 put-requires c κs = search needs

@@ -9,7 +9,7 @@ use lib.ListN.{length}
 use Rattle.refusal.specs.Refused.{done}
 use Rattle.store.specs.Form.{mostFile, validStore}
 use Rattle.store.specs.Operations.{toldChanged}
-use Rattle.store.proofs.Bytes.{both}
+use Rattle.limits.proofs.Within.{both}
 use Rattle.store.proofs.Answers.{begun, checked-passed}
 use Rattle.store.proofs.Ways.{return-begun}
 use Rattle.store_calls.proofs.return_to.Statement.{statement}

@@ -1,5 +1,6 @@
 -- `store_place::place_for` meets its contract. Assumes nothing.
 use borrow.Author.Needs.{needs}
+use native.Mathlib.Omega.{arith}
 use denote.Ref.{now}
 use Rattle.store_place.proofs.Places.{held-place, free-place}
 use Rattle.store_place.proofs.place_for.Statement.{statement}
@@ -12,7 +13,7 @@ returns : tie.Need-returns
 returns c =
     let s = c .before .before .before .before in
     let k = c .before .place-of .ensures in
-    (held-place (now (s .args .store)) (now (s .args .name)) (k .0) (c .if1 .taken), k .1)
+    (held-place (now (s .args .store)) (now (s .args .name)) (k .0) (omega (arith, c .if1 .taken)), k .1)
 
 slice-aggregate-place-of : tie.Need-slice-aggregate-place-of
 slice-aggregate-place-of c = search needs
@@ -25,7 +26,7 @@ returns-2 c =
     let s = c .before .before .before .before .before .before in
     let k = c .before .before .before .place-of .ensures in
     let free = c .place-of2 .ensures in
-    (free-place (now (s .args .store)) (now (s .args .name)) (k .0) (c .before .before .if1 .left) (free .0), free .1)
+    (free-place (now (s .args .store)) (now (s .args .name)) (k .0) (omega (arith, c .before .before .if1 .left)) (free .0), free .1)
 
 pub place-for-spec : {M : Type 1} → statement M
 place-for-spec =
