@@ -352,9 +352,10 @@ GONDWIZE_MUST_USE uint64_t gondwize_write_header(size_t nx, size_t ny, int64_t g
  * A store is 245,836 bytes of the caller's: four places of 61,459 bytes one after the other. A place is
  * free where all of its bytes are zero. Else its first 8 bytes are a name, 1 to 8 letters A to Z with
  * zeros after them; then comes a bath file that gondwize_read_file accepts, of 11 + 15 * count bytes, and
- * zeros after it to the place's end. No name stands in two places. A store of zeros is empty. What is
- * not of this length and form is refused with 1 before all else, and a call on what is leaves it so.
- * A name is given without zeros: its letters, and how many.
+ * zeros after it to the place's end. No name stands in two places. A store of zeros is empty. A store
+ * that is not of this length and form is refused with 1 before all else, and a call leaves one that is
+ * of it so. A name is given as its letters and how many: no zero ends it, so the number is that of
+ * strlen and not of sizeof.
  */
 
 /*
@@ -368,7 +369,8 @@ GONDWIZE_MUST_USE uint64_t gondwize_keep(uint8_t *store, size_t store_length,
 
 /*
  * Returns to the bath that is held under a name: its file stands at the front of `buffer`, the rest of
- * which stays as it is. `length`: that of the file.
+ * which stays as it is. `length`: that of the file. So gondwize_read_file takes `buffer` with `length`,
+ * and the records are what is behind the first 11 bytes.
  * Refused: 1 the store; 1 `buffer_length` below 61,451; 22; 23.
  */
 GONDWIZE_MUST_USE uint64_t gondwize_return(const uint8_t *store, size_t store_length,

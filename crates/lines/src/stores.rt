@@ -2,7 +2,7 @@
 use crate::words::natural;
 use crate::words::size;
 
-// Reads how many bytes of the store are lent, and the index of one byte and what it is then; answers how many.
+// Reads how many bytes of the store are lent, and the index of one byte and what it is then; answers how many are lent.
 pub fn read(store: &mut [u8]) -> usize {
     let lent = size();
     let at = size();

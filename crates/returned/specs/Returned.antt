@@ -73,7 +73,8 @@ pub record MeasuredFrom (l : Lent) (name file : List ℕ) (calls : List MixedCal
   -- the records are what the step and run calls leave of the file's, for which demand 3 holds
   pub records : left .records ≡ leavesAll (motions calls) (recordsIn file)
   pub conserves : Conserves Keeps (motions calls) (recordsIn file)
-  -- so identifiers, masses, marks, momentum and spin of the records are those of the file's, within the allowances of the completed steps
+  -- so identifiers, masses and marks of the records are the file's, and momentum and spin the file's with what gravity, drag and
+  -- rim give in the completed steps, within their allowances
   pub kept : Keeps (completesAll (motions calls) (recordsIn file)) (completedSteps (motions calls) (recordsIn file)) (particlesIn (recordsIn file)) (particlesIn (left .records))
   -- and the store is of its form
   pub form : validStore (left .store) ≡ true

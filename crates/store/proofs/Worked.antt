@@ -9,7 +9,7 @@ given : map validName ((65 ∷ []) ∷ (65 ∷ 66 ∷ 67 ∷ 68 ∷ 69 ∷ 70 �
 unfolding validName letters
 given = refl
 
--- A and ABCDEFGH; no letter, a gap, a lower-case letter, and one behind it
+-- A and ABCDEFGH; no letter, a gap, a lower-case letter, alone and behind a letter
 held : map validHeldName ((65 ∷ 0 ∷ 0 ∷ 0 ∷ 0 ∷ 0 ∷ 0 ∷ 0 ∷ []) ∷ (65 ∷ 66 ∷ 67 ∷ 68 ∷ 69 ∷ 70 ∷ 71 ∷ 72 ∷ []) ∷ (0 ∷ 0 ∷ 0 ∷ 0 ∷ 0 ∷ 0 ∷ 0 ∷ 0 ∷ []) ∷ (65 ∷ 0 ∷ 66 ∷ 0 ∷ 0 ∷ 0 ∷ 0 ∷ 0 ∷ []) ∷ (97 ∷ 0 ∷ 0 ∷ 0 ∷ 0 ∷ 0 ∷ 0 ∷ 0 ∷ []) ∷ (65 ∷ 98 ∷ 0 ∷ 0 ∷ 0 ∷ 0 ∷ 0 ∷ 0 ∷ []) ∷ []) ≡ true ∷ true ∷ false ∷ false ∷ false ∷ false ∷ []
 unfolding validHeldName letters allZero
 held = refl

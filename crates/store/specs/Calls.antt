@@ -1,10 +1,11 @@
 -- Document 02, Paper 8: what keep and forget answer, by what the store holds; and over lists of keep, return and forget, refused calls
 -- included: the store stays of its form, and under each name stands what the last keep or forget of that name that was not refused
 -- left, or what stood there at the start.
---     HeldIsAccepted, KeepTells, ForgetTells, ForgetFrees    the answers, by what is held
---     emptyStore, ZerosAreEmpty  a store of zeros
---     leavesUnder, CallKeeps    what one call changes: at its name alone
---     lastLeft, CallsKeep       a list of calls
+--     HeldIsAccepted, KeepTells, ForgetTells, HasRoom, ForgetFrees    the answers, by what is held
+--     emptyStore, ZerosAreEmpty               a store of zeros
+--     StoreCall, leavesStore                  a call, and the store that it leaves
+--     leavesUnder, CallKeeps, EveryCall       what one call changes: at its name alone
+--     lastLeft, CallsKeep, EveryListOfCalls   a list of calls
 -- Assumes nothing.
 use mathlib.Core.Path.{_≡_}
 use mathlib.Core.Bool.{Bool, true, false, not, cond, _&&_}
@@ -29,16 +30,16 @@ isHeld (some file) = true
 abbrev pub HeldIsAccepted : Type 0
 HeldIsAccepted = (store name file : List ℕ) → validStore store ≡ true → holds store name ≡ some file → accepted (fileAnswer file) ≡ true
 
--- 24 comes exactly where the name is not held and four others are
+-- after the other checks 24 comes exactly where the name is not held and no place is free, so that four others are
 abbrev pub KeepTells : Type 0
 KeepTells =
     (store name file : List ℕ) → toldOf (keepAnswer store name file) ≡ checkedCall (validStore store) name (andThen (fileAnswer file) (λ _. refuseIf (not (isHeld (holds store name)) && eqb (heldCount (places store)) placeCount) 24 0 done))
 
--- 23 comes exactly where the name is not held
+-- after 1 and 22, 23 comes exactly where the name is not held
 abbrev pub ForgetTells : Type 0
 ForgetTells = (store name : List ℕ) → toldOf (forgetAnswer store name) ≡ toldOf (checkedCall (validStore store) name (heldAnswer (holds store name)))
 
--- every bath may be kept under every name: 24 does not come
+-- a keep is refused with 1, 22 or the bath's own numbers only: 24 does not come
 abbrev pub HasRoom : List ℕ → Type 0
 HasRoom store = (name file : List ℕ) → toldOf (keepAnswer store name file) ≡ toldOf (checkedCall (validStore store) name (fileAnswer file))
 
@@ -51,6 +52,7 @@ ForgetFrees = (store name : List ℕ) → accepted (forgetAnswer store name) ≡
 unfoldable pub emptyStore : List ℕ
 emptyStore = replicate storeLength 0
 
+-- of the form, with nothing under any name and room for a bath
 pub record Empty (store : List ℕ) : Type 0 where
   pub form : validStore store ≡ true
   pub nothing : (name : List ℕ) → holds store name ≡ none

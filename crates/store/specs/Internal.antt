@@ -1,4 +1,4 @@
--- What the internal functions compute: their contracts name these, and no public one does.
+-- What the internal functions are given, compute and leave: their contracts name these, and no public operation's does.
 -- Assumes nothing.
 use mathlib.Core.Path.{_≡_}
 use mathlib.Core.Bool.{Bool, true, not, _&&_, _||_}

@@ -88,7 +88,7 @@ pub fn clear(bytes: &mut [u8])
     }
 }
 
-// Writes the source, and zeros after it. Crate store_calls calls it with a source that the target has room for.
+// Writes the source, and zeros after it. Crate store_place calls it with a source that the target has room for.
 pub fn fill(source: &[u8], target: &mut [u8])
     requires { ⌜ length (now source) ≤ length (now target) ⌝ }
     ensures { λ _. ⌜ now (target .exit) ≡ padded (length (now (target .entry))) (now (source .entry)) ⌝ }

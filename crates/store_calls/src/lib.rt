@@ -51,7 +51,7 @@ fn keep_named(store: &mut [u8], name: &[u8], file: &[u8]) -> Changed
     }
 }
 
-// Keep: a bath file under a name, in the place of the one that has it.
+// Keep: a bath file under a name, in the place that has the name, or else in the lowest that is free.
 pub fn keep(store: &mut [u8], name: &[u8], file: &[u8]) -> Changed
     ensures { λ r. ⌜ KeepIs (now (store .entry)) (now (name .entry)) (now (file .entry)) (toldChanged r) (now (store .exit)) ⌝ }
 {

@@ -1,4 +1,5 @@
-// The calls of keep, return and forget, for the program `cases`: each reads a name, and prints its answer and what it may have changed.
+// The calls of keep, return and forget, for the program `cases`: each reads a name, and prints its answer and what it may have
+// changed.
 use lines::lists::NODES;
 use lines::lists::octets;
 use lines::lists::within;
@@ -46,8 +47,8 @@ fn called(name: u64, store: &mut [u8], bytes: &mut [u8]) -> bool {
     true
 }
 
-// Calls an operation with as much of the store as is lent, and prints the names of all places. The program `cases` calls it with any
-// line that it does not know.
+// Calls an operation with as much of the store as is lent, and prints the names of all places; nothing where the line names none of
+// the three. The program `cases` calls it with every line but those of operations that may change the bytes by themselves.
 pub fn call(name: u64, lent: usize, store: &mut [u8], bytes: &mut [u8]) {
     let n = within(lent, store.len());
     if called(name, &mut store[..n], bytes) {

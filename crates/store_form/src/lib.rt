@@ -14,8 +14,8 @@ ghost use Rattle.store.specs.Names.{validHeldName};
 ghost use Rattle.store.specs.Form.{placeLength, placeCount, storeLength, fileLength, validRoom, occupied, places, firstNamed, validStore};
 ghost use Rattle.store.specs.Internal.{validAt};
 
-// The length of the file at the front of a room, by the count in its header. `valid_room` calls it, and so does crate store_calls, with
-// the room of a place.
+// The length of the file at the front of a room, by the count in its header. `valid_room` calls it, and so does crate store_place,
+// with the room of a place.
 pub fn file_length(room: &[u8]) -> usize
     requires { ⌜ headerLength ≤ length (now room) ⌝ }
     ensures { λ r. ⌜ r ≡ fileLength (now (room .entry)) ⌝ }
@@ -56,7 +56,7 @@ fn occupied(place: &[u8]) -> bool
 }
 
 // The first place from `from` on that has these eight bytes as its name, or 4 where none has. `valid_at` calls it, and so does crate
-// store_calls, with a store of its length.
+// store_place, with a store of its length.
 pub fn find(store: &[u8], from: usize, held: &[u8]) -> usize
     requires { ⌜ (length (now store) ≡ storeLength) × (from ≤ placeCount) ⌝ }
     ensures { λ r. ⌜ (r ≡ from + firstNamed (now (held .entry)) (drop from (places (now (store .entry))))) × (r ≤ placeCount) ⌝ }
@@ -85,7 +85,7 @@ fn valid_at(store: &[u8], k: usize) -> bool
     occupied(place) && find(store, k + 1, &place[..NAME_LENGTH]) == PLACE_COUNT
 }
 
-// A store is of its length and form: any bytes.
+// Any bytes are a store of its length and form.
 pub fn valid_store(store: &[u8]) -> bool
     ensures { λ r. ⌜ r ≡ validStore (now (store .entry)) ⌝ }
 {

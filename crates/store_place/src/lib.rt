@@ -12,8 +12,8 @@ ghost use Rattle.store.specs.Form.{mostFile, placeLength, placeCount, storeLeng
 ghost use Rattle.store.specs.Operations.{withPlace, placeFor, keptPlace, freePlace};
 ghost use Rattle.store.specs.Internal.{Keepable, Copyable};
 
-// The place that has a name, or 4 where none has. `place_for` calls it, and so does crate store_calls, with a store of its length and a
-// name that is not too long.
+// The place that has a name, or 4 where none has. `place_for` calls it, and so does crate store_calls, with a store of its length and
+// a name that is not too long.
 pub fn place_of(store: &[u8], name: &[u8]) -> usize
     requires { ⌜ (length (now store) ≡ storeLength) × (length (now name) ≤ nameLength) ⌝ }
     ensures { λ r. ⌜ (r ≡ placeOf (now (store .entry)) (now (name .entry))) × (r ≤ placeCount) ⌝ }

@@ -1,5 +1,5 @@
-//! A store of baths by name: its form is looked at in place, each byte once, and a call writes only
-//! the bytes that change.
+//! A store of baths by name: its form is looked at in place, and a call writes only the name, the
+//! file and, after it, what is left of a longer one.
 
 use crate::file::{found, front, MOST_LENGTH};
 use crate::{answer, refused};
@@ -83,7 +83,7 @@ fn position(places: &[Held; PLACES], name: Name) -> Option<usize> {
     places.iter().position(|held| held.name == name)
 }
 
-/// The place that has this name, and the length of its file, or 23.
+/// Where the place that has this name begins, and the length of its file, or 23.
 fn known(places: &[Held; PLACES], name: Name) -> Result<(usize, usize), u64> {
     let place = position(places, name).ok_or(refused(23, 0))?;
     Ok((PLACE_LENGTH * place, places[place].length))
@@ -156,7 +156,7 @@ mod tests {
 
     const NAMES: [&[u8]; 8] = [b"A", b"AB", b"ABCDEFGH", b"Z", b"ZA", b"a", b"", b"A\0"];
 
-    /// All three calls on a store and a buffer, by the reference too; the answers.
+    /// One of the three calls on a store and a buffer, by the reference too; the answer.
     fn agree(store: &mut [u8], which: i128, name: &[u8], file: &[u8], buffer: &mut [u8]) -> u64 {
         let mut expected = (store.to_vec(), buffer.to_vec());
         let answers = match which {
