@@ -2,6 +2,7 @@
 --     placeLength, placeCount, storeLength    four places, each a name and room for the longest file
 --     validRoom, occupied                     a place that holds a bath file under a name
 --     validStore                              the form, as a test
+--     heldCount                               how many places are not free
 --     placeOf, holds                          where a store holds a name, and the file that it holds under it, or nothing
 -- Assumes nothing.
 use mathlib.Core.Bool.{Bool, true, not, cond, _&&_, _||_}
