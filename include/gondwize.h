@@ -23,25 +23,29 @@
  * Stack. The most that a call needs, from its caller's frame down, by the number of its particles, in
  * kB of 1,000 bytes. A call that takes no set stands under 0; one that ends with 13, 14, 15, 20 or 21
  * counts by its particles and not as refused. A keep, a return and a forget count by the particles of
- * their bath, whatever else the store holds.
+ * their bath, whatever else the store holds. The lesson page's run and step need at most 23.0 kB, where the
+ * bench's need up to 152.1: 129.1 kB less. Its other calls need what those without page_ do.
  *
  *     kB                        refused        0        1    to 64   to 512 to 4,096
  *     gondwize_run                  3.2      4.3      4.3      4.3     23.0    152.1
  *     gondwize_run, no step         3.2      4.3      4.3      4.3     23.0    152.1
  *     gondwize_step                 3.2      4.3      4.3      4.3     23.0    152.1
+ *     gondwize_page_run             3.2      4.3      4.3      4.3     23.0
+ *     .. no step                    3.2      4.3      4.3      4.3     23.0
+ *     gondwize_page_step            3.2      4.3      4.3      4.3     23.0
  *     gondwize_scatter              0.5      2.6      2.6      2.6      2.6      2.6
- *     gondwize_adding_scatter       8.2     67.5     67.5     67.5     67.5     67.5
- *     .. to 320 nodes               8.2     10.5     10.5     10.5     10.5     10.5
- *     gondwize_update               0.3      0.4
- *     gondwize_gather               1.6      3.9      3.9      3.9     77.8     77.8
- *     gondwize_check_set            0.3      0.3      0.3      0.3      0.3      0.3
+ *     gondwize_adding_scatter       8.3     67.6     67.6     67.6     67.6     67.6
+ *     .. to 320 nodes               8.3     10.5     10.5     10.5     10.5     10.5
+ *     gondwize_update               0.4      0.5
+ *     gondwize_gather               1.7      4.0      4.0      4.0     77.9     77.9
+ *     gondwize_check_set            0.5      0.5      0.5      0.5      0.5      0.5
  *     gondwize_totals               0.3      0.3      0.3      0.3      0.3      0.3
  *     gondwize_weights              0.2      0.2
  *     gondwize_read_record          0.2      0.2
  *     gondwize_write_record         0.2      0.2
- *     gondwize_read_file            0.4      0.4      0.4      0.4      0.4      0.4
+ *     gondwize_read_file            0.5      0.5      0.5      0.5      0.5      0.5
  *     gondwize_write_header         0.2      0.2
- *     gondwize_keep                 0.7      0.7      0.7      0.7      0.7      0.7
+ *     gondwize_keep                 0.8      0.8      0.8      0.8      0.8      0.8
  *     gondwize_return               0.6      0.6      0.6      0.6      0.6      0.6
  *     gondwize_forget               0.6      0.6      0.6      0.6      0.6      0.6
  */
@@ -51,9 +55,9 @@
 #include <stddef.h>
 #include <stdint.h>
 
-#define GONDWIZE_VERSION "5.1.0"
+#define GONDWIZE_VERSION "5.2.0"
 #define GONDWIZE_VERSION_MAJOR 5
-#define GONDWIZE_VERSION_MINOR 1
+#define GONDWIZE_VERSION_MINOR 2
 #define GONDWIZE_VERSION_PATCH 0
 
 /* An answer that must be looked at, and an array of at least so many elements. */
@@ -134,6 +138,13 @@
 /* Drag, in 256ths of a node's velocity per step. */
 #define GONDWIZE_MOST_DRAG 255
 
+/* The lesson page: the most nodes along an axis, nodes in all, records, and the length of the longest file. */
+#define GONDWIZE_PAGE_MOST_NODES 16
+#define GONDWIZE_PAGE_MOST_GRID (GONDWIZE_PAGE_MOST_NODES * GONDWIZE_PAGE_MOST_NODES)
+#define GONDWIZE_PAGE_MOST_RECORDS 512
+#define GONDWIZE_PAGE_MOST_FILE_LENGTH \
+    (GONDWIZE_HEADER_LENGTH + GONDWIZE_RECORD_LENGTH * GONDWIZE_PAGE_MOST_RECORDS)
+
 /* ---- Refusals. */
 
 /*
@@ -144,8 +155,8 @@
  */
 #define GONDWIZE_REFUSALS(X) \
     X(1, LENGTH, "a record, set, grid, file, buffer or store has the wrong length, or a store the wrong form") \
-    X(2, GRID_SIZE, "nx or ny is not 4 to 48") \
-    X(3, COUNT, "the count is above 4096") \
+    X(2, GRID_SIZE, "nx or ny is not 4 to 48, or for the lesson page 4 to 16") \
+    X(3, COUNT, "the count is above 4096, or for the lesson page above 512") \
     X(4, MASS, "a mass is not 1 to 1023") \
     X(5, VELOCITY, "a velocity is not -63 to 63") \
     X(6, AFFINE, "an entry of B is not -2047 to 2047") \
@@ -383,6 +394,71 @@ GONDWIZE_MUST_USE uint64_t gondwize_return(const uint8_t *store, size_t store_le
  */
 GONDWIZE_MUST_USE uint64_t gondwize_forget(uint8_t *store, size_t store_length,
                                            const uint8_t *name, size_t name_length);
+
+/* ---- The lesson page: the calls above that check a size, a set or a file, for small baths. */
+
+/*
+ * Each does what the function without page_ does, with the same parameters, and for a bath of at most 512
+ * records and 16 nodes each way its outcome is the same, refused or not. Its limits are smaller:
+ *     2    nx or ny is not 4 to 16;
+ *     3    more than 512 records: in a file at the place of 3; in a set that is given directly after 2 and all
+ *          of 1, the grid buffers' too, and before what follows.
+ * The length of a set is judged as before, so one of 513 to 4,096 records is refused with 3 and a longer one
+ * with 1. A store's form is judged as before, and so it may hold baths that the page does not take; of
+ * gondwize_page_keep the file has the page's limits. A buffer that is returned into has at least
+ * GONDWIZE_MOST_FILE_LENGTH bytes, whatever the bath.
+ */
+GONDWIZE_MUST_USE uint64_t gondwize_page_check_set(size_t nx, size_t ny,
+                                                   const uint8_t *records, size_t records_length,
+                                                   uint64_t *count);
+
+GONDWIZE_MUST_USE uint64_t gondwize_page_totals(size_t nx, size_t ny,
+                                                const uint8_t *records, size_t records_length,
+                                                int64_t values[GONDWIZE_AT_LEAST(6)]);
+
+GONDWIZE_MUST_USE uint64_t gondwize_page_scatter(size_t nx, size_t ny,
+                                                 const uint8_t *records, size_t records_length,
+                                                 uint64_t *mass, size_t mass_length,
+                                                 int64_t *px, size_t px_length,
+                                                 int64_t *py, size_t py_length);
+
+GONDWIZE_MUST_USE uint64_t gondwize_page_adding_scatter(size_t nx, size_t ny,
+                                                        const uint8_t *records, size_t records_length,
+                                                        uint64_t *mass, size_t mass_length,
+                                                        int64_t *px, size_t px_length,
+                                                        int64_t *py, size_t py_length);
+
+GONDWIZE_MUST_USE uint64_t gondwize_page_update(size_t nx, size_t ny, int64_t gx, int64_t gy,
+                                                size_t kind, size_t width, size_t drag,
+                                                const uint64_t *mass, size_t mass_length,
+                                                int64_t *px, size_t px_length,
+                                                int64_t *py, size_t py_length);
+
+GONDWIZE_MUST_USE uint64_t gondwize_page_gather(size_t nx, size_t ny,
+                                                uint8_t *records, size_t records_length,
+                                                const int64_t *ux, size_t ux_length,
+                                                const int64_t *uy, size_t uy_length);
+
+GONDWIZE_MUST_USE uint64_t gondwize_page_step(size_t nx, size_t ny, int64_t gx, int64_t gy,
+                                              size_t kind, size_t width, size_t drag,
+                                              uint8_t *records, size_t records_length,
+                                              uint64_t *mass, size_t mass_length,
+                                              int64_t *px, size_t px_length,
+                                              int64_t *py, size_t py_length);
+
+GONDWIZE_MUST_USE uint64_t gondwize_page_run(size_t nx, size_t ny, int64_t gx, int64_t gy,
+                                             size_t kind, size_t width, size_t drag, size_t steps,
+                                             uint8_t *records, size_t records_length,
+                                             uint64_t *mass, size_t mass_length,
+                                             int64_t *px, size_t px_length,
+                                             int64_t *py, size_t py_length, uint64_t *completed);
+
+GONDWIZE_MUST_USE uint64_t gondwize_page_read_file(const uint8_t *bytes, size_t bytes_length,
+                                                   int64_t values[GONDWIZE_AT_LEAST(9)]);
+
+GONDWIZE_MUST_USE uint64_t gondwize_page_keep(uint8_t *store, size_t store_length,
+                                              const uint8_t *name, size_t name_length,
+                                              const uint8_t *file, size_t file_length);
 
 #ifdef __cplusplus
 }

@@ -4,8 +4,8 @@
  * is added to and of an offset at their edge and one beyond, what drag and edges leave of a node's
  * velocity, sets that are added in parts, every number of marks, and that calls leave them, totals,
  * refusals by name and by text, empty slices, a file that is written and read back, names and stores at
- * their edges, and a store of four of the largest baths. Exits with 1 where something differs, and says
- * where.
+ * their edges, a store of four of the largest baths, and the lesson page's limits in each of its calls,
+ * beside the bench's. Exits with 1 where something differs, and says where.
  */
 #include <inttypes.h>
 #include <stdio.h>
@@ -281,7 +281,8 @@ static void orders(void)
 
 /* ---- The places of a set, for each size, and its mass. */
 
-static uint8_t set[GONDWIZE_MOST_SET_LENGTH];
+/* With room for a record too many. */
+static uint8_t set[GONDWIZE_MOST_SET_LENGTH + GONDWIZE_RECORD_LENGTH];
 
 static void put(size_t at, uint64_t m, uint64_t x, uint64_t y)
 {
@@ -600,12 +601,14 @@ static void answers(void)
     same("text of 25", (uint64_t)strcmp(gondwize_refusal_text(25), "unknown refusal"), 0);
     same("number of an answer", GONDWIZE_NUMBER(UINT64_C(7) << 32 | 70000), 7);
     same("place of an answer", GONDWIZE_PLACE(UINT64_C(7) << 32 | 70000), 70000);
-    same("version", (uint64_t)strcmp(GONDWIZE_VERSION, "5.1.0"), 0);
+    same("version", (uint64_t)strcmp(GONDWIZE_VERSION, "5.2.0"), 0);
     same("length of a file", GONDWIZE_FILE_LENGTH(3), 56);
     same("length of the longest file", GONDWIZE_FILE_LENGTH(GONDWIZE_MOST_RECORDS), GONDWIZE_MOST_FILE_LENGTH);
     same("length of the longest set", GONDWIZE_MOST_SET_LENGTH, 61440);
     same("length of a place", GONDWIZE_STORE_PLACE_LENGTH, 61459);
     same("length of a store", GONDWIZE_STORE_LENGTH, 245836);
+    same("the page's nodes", GONDWIZE_PAGE_MOST_GRID, 256);
+    same("length of the page's longest file", GONDWIZE_PAGE_MOST_FILE_LENGTH, 7691);
 }
 
 /* ---- Marks: every number of them, and those of three records, which gather, step and run leave. */
@@ -749,16 +752,21 @@ static uint64_t forgotten(const char *name)
     return gondwize_forget(store, GONDWIZE_STORE_LENGTH, (const uint8_t *)name, strlen(name));
 }
 
-/* A bath of so many particles, with this gravity, in `kept`. */
-static void put_bath(size_t records, int64_t gx)
+/* A bath of so many particles on this grid, with this gravity, in `kept`. */
+static void put_bath_on(size_t nx, size_t ny, size_t records, int64_t gx)
 {
-    same("a bath's header", gondwize_write_header(48, 48, gx, 9, records, 12, GONDWIZE_EDGE_SLIP, 2, 7, kept,
+    same("a bath's header", gondwize_write_header(nx, ny, gx, 9, records, 12, GONDWIZE_EDGE_SLIP, 2, 7, kept,
                                                   GONDWIZE_HEADER_LENGTH), 0);
     for (size_t k = 0; k < records; k++)
         same("a bath's record", gondwize_write_record((uint16_t)k, 32, 100 + k % 900, 100 + k / 4, 1, -2, 3, -4,
                                                       5, -6, (uint8_t)(3 * k + 7),
                                                       kept + GONDWIZE_FILE_LENGTH(k),
                                                       GONDWIZE_RECORD_LENGTH), 0);
+}
+
+static void put_bath(size_t records, int64_t gx)
+{
+    put_bath_on(48, 48, records, gx);
 }
 
 /* A return answers so; what it writes is the bath in `kept`, and a refused one writes nothing. */
@@ -892,6 +900,216 @@ static void largest_baths(void)
          0);
 }
 
+/* ---- The lesson page: each of its calls at its limits, and the bench's with the same parameters. */
+
+struct calls {
+    uint64_t (*check_set)(size_t, size_t, const uint8_t *, size_t, uint64_t *);
+    uint64_t (*totals)(size_t, size_t, const uint8_t *, size_t, int64_t *);
+    uint64_t (*scatter)(size_t, size_t, const uint8_t *, size_t, uint64_t *, size_t, int64_t *, size_t,
+                        int64_t *, size_t);
+    uint64_t (*adding_scatter)(size_t, size_t, const uint8_t *, size_t, uint64_t *, size_t, int64_t *, size_t,
+                               int64_t *, size_t);
+    uint64_t (*update)(size_t, size_t, int64_t, int64_t, size_t, size_t, size_t, const uint64_t *, size_t,
+                       int64_t *, size_t, int64_t *, size_t);
+    uint64_t (*gather)(size_t, size_t, uint8_t *, size_t, const int64_t *, size_t, const int64_t *, size_t);
+    uint64_t (*step)(size_t, size_t, int64_t, int64_t, size_t, size_t, size_t, uint8_t *, size_t, uint64_t *,
+                     size_t, int64_t *, size_t, int64_t *, size_t);
+    uint64_t (*run)(size_t, size_t, int64_t, int64_t, size_t, size_t, size_t, size_t, uint8_t *, size_t,
+                    uint64_t *, size_t, int64_t *, size_t, int64_t *, size_t, uint64_t *);
+    uint64_t (*read_file)(const uint8_t *, size_t, int64_t *);
+    uint64_t (*keep)(uint8_t *, size_t, const uint8_t *, size_t, const uint8_t *, size_t);
+};
+
+#define CALLS(prefix) \
+    {prefix##check_set, prefix##totals, prefix##scatter, prefix##adding_scatter, prefix##update, \
+     prefix##gather, prefix##step, prefix##run, prefix##read_file, prefix##keep}
+static const struct calls bench = CALLS(gondwize_), page = CALLS(gondwize_page_);
+#undef CALLS
+
+static uint8_t set_before[sizeof set];
+
+/* What the calls of a set are given: the first bytes of `set`, and buffers of so many nodes. */
+struct given {
+    size_t nx, ny, length, mass, px, py;
+    int64_t gx;
+    size_t kind, drag, steps;
+};
+
+static struct given given(size_t nx, size_t ny, size_t records)
+{
+    const size_t nodes = nx * ny;
+    const struct given g = {nx, ny, records * GONDWIZE_RECORD_LENGTH, nodes, nodes, nodes, 0,
+                            GONDWIZE_EDGE_OPEN, 0, 2};
+    return g;
+}
+
+/* Particles at rest, so many, and velocities of 0 for a gather. */
+static void put_set(size_t records)
+{
+    for (size_t k = 0; k < records; k++)
+        put(k, 1 + k % 31, 64 + k % 90, 64 + k % 80);
+    memcpy(set_before, set, sizeof set);
+    memset(mass, 0, sizeof mass);
+    memset(px, 0, sizeof px);
+    memset(py, 0, sizeof py);
+}
+
+/* A refused call has left set and grids. */
+static void left(const char *what, uint64_t answer)
+{
+    if (answer == 0)
+        return;
+    same(what, (uint64_t)memcmp(set, set_before, sizeof set), 0);
+    for (size_t k = 0; k < GONDWIZE_MOST_GRID; k++)
+        same(what, mass[k] | (uint64_t)px[k] | (uint64_t)py[k], 0);
+}
+
+/* Every call of a set answers so, one after the other, but those of no grid where the grids are wrong. */
+static void set_calls_answer(const char *what, const struct calls *by, const struct given *g, uint64_t want,
+                             uint64_t without_grids)
+{
+    const size_t records = g->length / GONDWIZE_RECORD_LENGTH;
+    int64_t values[GONDWIZE_TOTALS_VALUES] = {7, 7, 7, 7, 7, 7};
+    uint64_t number = 9, answer;
+    put_set(records);
+    same(what, by->check_set(g->nx, g->ny, set, g->length, &number), without_grids);
+    same(what, number, without_grids == 0 ? records : 9);
+    same(what, by->totals(g->nx, g->ny, set, g->length, values), without_grids);
+    same(what, values[0] == 7, without_grids != 0);
+    answer = by->scatter(g->nx, g->ny, set, g->length, mass, g->mass, px, g->px, py, g->py);
+    same(what, answer, want);
+    left(what, answer);
+    answer = by->adding_scatter(g->nx, g->ny, set, g->length, mass, g->mass, px, g->px, py, g->py);
+    same(what, answer, want);
+    left(what, answer);
+    if (g->mass == g->nx * g->ny) {
+        answer = by->gather(g->nx, g->ny, set, g->length, px, g->px, py, g->py);
+        same(what, answer, want);
+        left(what, answer);
+    }
+    answer = by->step(g->nx, g->ny, g->gx, 0, g->kind, 0, g->drag, set, g->length, mass, g->mass, px, g->px, py,
+                      g->py);
+    same(what, answer, want);
+    left(what, answer);
+    number = 9;
+    answer = by->run(g->nx, g->ny, g->gx, 0, g->kind, 0, g->drag, g->steps, set, g->length, mass, g->mass, px,
+                     g->px, py, g->py, &number);
+    same(what, answer, want);
+    same(what, number, answer == 0 ? g->steps : 0);
+    left(what, answer);
+}
+
+/* The page's calls answer so to a set, and the bench takes it. */
+static void page_set_answers(const char *what, size_t nx, size_t ny, size_t records, uint64_t want)
+{
+    const struct given g = given(nx, ny, records);
+    set_calls_answer(what, &page, &g, want, want);
+    set_calls_answer(what, &bench, &g, 0, 0);
+}
+
+static void page_sets(void)
+{
+    const size_t least = GONDWIZE_LEAST_NODES, most = GONDWIZE_PAGE_MOST_NODES;
+    const size_t many = GONDWIZE_PAGE_MOST_RECORDS;
+    const uint64_t size = refused(GONDWIZE_REFUSED_GRID_SIZE, 0), count = refused(GONDWIZE_REFUSED_COUNT, 0);
+    const uint64_t length = refused(GONDWIZE_REFUSED_LENGTH, 0);
+    page_set_answers("the page's widest grid", most, least, 3, 0);
+    page_set_answers("the page's highest grid", least, most, 3, 0);
+    page_set_answers("a grid too wide for the page", most + 1, least, 3, size);
+    page_set_answers("a grid too high for the page", least, most + 1, 3, size);
+    page_set_answers("size before count", most + 1, least, many + 1, size);
+    page_set_answers("the page's largest set", most, most, many, 0);
+    page_set_answers("a set too large for the page", most, least, many + 1, count);
+    page_set_answers("the bench's largest set", least, most, GONDWIZE_MOST_RECORDS, count);
+
+    struct given g = given(least, most, GONDWIZE_MOST_RECORDS + 1);
+    set_calls_answer("a set too long for both", &page, &g, length, length);
+    g = given(most, least, many + 1);
+    g.length++;
+    set_calls_answer("length before count", &page, &g, length, length);
+    g = given(most, least, many + 1);
+    g.mass--;
+    set_calls_answer("masses before count", &page, &g, length, count);
+    g = given(most, least, many + 1);
+    g.px--;
+    set_calls_answer("a grid before count", &page, &g, length, count);
+    g = given(most, least, many + 1);
+    g.py++;
+    set_calls_answer("another grid before count", &page, &g, length, count);
+    g = given(most, least, many + 1);
+    g.gx = GONDWIZE_MOST_GRAVITY + 1;
+    g.kind = GONDWIZE_EDGE_SLIP + 1;
+    g.drag = GONDWIZE_MOST_DRAG + 1;
+    g.steps = GONDWIZE_MOST_STEPS + 1;
+    set_calls_answer("count before settings", &page, &g, count, count);
+}
+
+static void page_updates(void)
+{
+    const size_t sizes[][2] = {{16, 4}, {4, 16}, {17, 4}, {4, 17}, {16, 3}, {48, 48}};
+    for (size_t k = 0; k < sizeof sizes / sizeof *sizes; k++) {
+        const size_t nx = sizes[k][0], ny = sizes[k][1], nodes = nx * ny;
+        const size_t most = GONDWIZE_PAGE_MOST_NODES, least = GONDWIZE_LEAST_NODES;
+        const int small = nx <= most && ny <= most && ny >= least;
+        for (size_t node = 0; node < nodes; node++) {
+            mass[node] = 1;
+            px[node] = 4;
+            py[node] = -4;
+        }
+        same("the page's update", page.update(nx, ny, 5, -6, 0, 0, 0, mass, nodes, px, nodes, py, nodes),
+             small ? 0 : refused(GONDWIZE_REFUSED_GRID_SIZE, 0));
+        for (size_t node = 0; node < nodes; node++) {
+            same("the page's ux", (uint64_t)px[node], (uint64_t)(small ? 6 : 4));
+            same("the page's uy", (uint64_t)py[node], (uint64_t)(small ? -7 : -4));
+        }
+        same("the bench's update", bench.update(nx, ny, 5, -6, 0, 0, 0, mass, nodes, px, nodes, py, nodes),
+             ny < least ? refused(GONDWIZE_REFUSED_GRID_SIZE, 0) : 0);
+    }
+}
+
+/* A file of this bath: reading and keeping answer so to the page, and the bench takes it. */
+static void page_file_answers(const char *what, size_t nx, size_t ny, size_t records, uint64_t want)
+{
+    const size_t length = GONDWIZE_FILE_LENGTH(records), room = GONDWIZE_MOST_FILE_LENGTH;
+    const uint8_t name[] = {'P', 'A', 'G', 'E'};
+    int64_t values[GONDWIZE_HEADER_VALUES] = {7};
+    put_bath_on(nx, ny, records, 5);
+    same(what, page.read_file(kept, length, values), want);
+    same(what, (uint64_t)values[0], want == 0 ? nx : 7);
+    memcpy(store_before, store, sizeof store);
+    same(what, page.keep(store, GONDWIZE_STORE_LENGTH, name, sizeof name, kept, length), want);
+    same(what, memcmp(store, store_before, sizeof store) == 0, want != 0);
+    same(what, page.keep(store, GONDWIZE_STORE_LENGTH, name, 0, kept, length), refused(GONDWIZE_REFUSED_NAME, 0));
+    same(what, page.keep(store, sizeof store, name, 0, kept, length), refused(GONDWIZE_REFUSED_LENGTH, 0));
+    same(what, bench.read_file(kept, length, values), 0);
+    same(what, bench.keep(store, GONDWIZE_STORE_LENGTH, name, sizeof name, kept, length), 0);
+    return_answers(what, "PAGE", room, records, 0);
+    same(what, forgotten("PAGE"), 0);
+}
+
+/* In a store that holds baths of the bench, one of them with more records than the page takes. */
+static void page_files(void)
+{
+    const size_t most = GONDWIZE_PAGE_MOST_NODES, many = GONDWIZE_PAGE_MOST_RECORDS;
+    const uint64_t size = refused(GONDWIZE_REFUSED_GRID_SIZE, 0), count = refused(GONDWIZE_REFUSED_COUNT, 0);
+    memset(store, 0, sizeof store);
+    put_bath(GONDWIZE_MOST_RECORDS, 3);
+    same("the bench's largest bath", kept_as("LARGE", GONDWIZE_MOST_RECORDS), 0);
+    page_file_answers("the page's largest file", most, 12, many, 0);
+    page_file_answers("a high file of the page", 12, most, many, 0);
+    page_file_answers("a file too wide for the page", most + 1, 12, 1, size);
+    page_file_answers("a file too high for the page", 12, most + 1, many + 1, size);
+    page_file_answers("a file too large for the page", most, 12, many + 1, count);
+    put_bath_on(most, 12, many + 1, GONDWIZE_MOST_GRAVITY);
+    int64_t values[GONDWIZE_HEADER_VALUES];
+    same("count before length", page.read_file(kept, GONDWIZE_HEADER_LENGTH, values), count);
+    kept[GONDWIZE_HEADER_LENGTH - 1] |= 1;
+    same("count before spare bits", page.read_file(kept, GONDWIZE_FILE_LENGTH(many + 1), values), count);
+    kept[GONDWIZE_HEADER_LENGTH - 2] |= 0xF0;
+    same("edge before count", page.read_file(kept, GONDWIZE_FILE_LENGTH(many + 1), values),
+         refused(GONDWIZE_REFUSED_EDGE, 0));
+}
+
 int main(void)
 {
     records();
@@ -916,6 +1134,9 @@ int main(void)
     names();
     forms();
     largest_baths();
+    page_sets();
+    page_updates();
+    page_files();
     if (failures != 0)
         printf("%d answers differ\n", failures);
     return failures != 0;

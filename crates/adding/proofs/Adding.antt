@@ -19,6 +19,7 @@ use Rattle.refusal.specs.Refused.{Answer, result, refused, andThen, done}
 use Rattle.refusal.proofs.Answers.{refused-leaves, done-leaves}
 use Rattle.arith.specs.Size.{Bound, bound-fits}
 use Rattle.limits.specs.Limits.{mostSide, mostNodeMass, mostPresentMomentum}
+use Rattle.limits.specs.declared.Caller.{Caller}
 use Rattle.spline.specs.Spline.{axisWeight, D}
 use Rattle.particle.specs.declared.Particle.{Particle}
 use Rattle.apic.specs.Step.{Grids, gridsOf}
@@ -138,15 +139,15 @@ module _ {nx ny : ℕ} {records mass : List ℕ} {px py : List ℤ} (s : Scatter
 
 -- ---- the operation
 
-module _ (nx ny : ℕ) (records mass : List ℕ) (px py : List ℤ) where
-  pub bad-entry : {n k : ℕ} → scatterAnswer nx ny records (length mass) (length px) (length py) ≡ refused n k → AddingIs nx ny records mass px py (refused n k) mass px py
+module _ (caller : Caller) (nx ny : ℕ) (records mass : List ℕ) (px py : List ℤ) where
+  pub bad-entry : {n k : ℕ} → scatterAnswer caller nx ny records (length mass) (length px) (length py) ≡ refused n k → AddingIs caller nx ny records mass px py (refused n k) mass px py
   unfolding addingAnswer
   bad-entry e = refused-leaves (ap (λ a. andThen a (λ ps. addedGrids (nx * ny) (gridsOf mass px py) (scatterOf nx ny ps))) e)
 
-  module _ {ps : List Particle} (e : scatterAnswer nx ny records (length mass) (length px) (length py) ≡ result ps) where
-    pub with-set : {told : Answer Unit} {mass′ : List ℕ} {px′ py′ : List ℤ} → AddsSet nx ny records mass px py told mass′ px′ py′ → AddingIs nx ny records mass px py told mass′ px′ py′
+  module _ {ps : List Particle} (e : scatterAnswer caller nx ny records (length mass) (length px) (length py) ≡ result ps) where
+    pub with-set : {told : Answer Unit} {mass′ : List ℕ} {px′ py′ : List ℤ} → AddsSet nx ny records mass px py told mass′ px′ py′ → AddingIs caller nx ny records mass px py told mass′ px′ py′
     unfolding addingAnswer
     with-set {told} {mass′} {px′} {py′} h =
         subst (λ a. Adds a mass px py told mass′ px′ py′)
-        (sym (ap (λ a. andThen a (λ qs. addedGrids (nx * ny) (gridsOf mass px py) (scatterOf nx ny qs))) (e ∙ ap result (sym (particlesIn-accepted nx ny records (accepted (still nx ny) (Three (length mass) (length px) (length py)) 0 records e .set))))))
+        (sym (ap (λ a. andThen a (λ qs. addedGrids (nx * ny) (gridsOf mass px py) (scatterOf nx ny qs))) (e ∙ ap result (sym (particlesIn-accepted nx ny records (accepted caller (still nx ny) (Three (length mass) (length px) (length py)) 0 records e .set))))))
         h

@@ -6,6 +6,7 @@ use Prim.Native.Nat.{ℕ}
 use lib.ListN.{replicate, set}
 use lib.IntN.{pos, negsuc}
 use Rattle.refusal.specs.Refused.{result, refused, done}
+use Rattle.limits.specs.declared.Caller.the-variants.{Bench}
 use Rattle.apic.specs.Step.{Grids, gridsOf, nodeMass, nodeMomentum}
 use Rattle.particles.specs.Set.{setFrom}
 use Rattle.entry.specs.Entry.{checkedForces, beginAnswer, entryAnswer}
@@ -53,15 +54,15 @@ first-told = (refl, refl)
 abbrev masses : List ℕ
 masses = set (replicate 20 1) 6 0
 
-no-particle : addingAnswer 4 5 [] (gridsOf masses (replicate 20 (pos 0)) (replicate 20 (pos 0))) ≡ result (gridsOf masses (replicate 20 (pos 0)) (replicate 20 (pos 0)))
+no-particle : addingAnswer Bench 4 5 [] (gridsOf masses (replicate 20 (pos 0)) (replicate 20 (pos 0))) ≡ result (gridsOf masses (replicate 20 (pos 0)) (replicate 20 (pos 0)))
 unfolding nodeMass nodeMomentum setFrom checkedForces beginAnswer entryAnswer checkNode checkNodes massSums momentumSums addedGrids addingAnswer
 no-particle = refl
 
-still-there : AddingIs 4 5 [] masses (set (replicate 20 (pos 0)) 6 (pos 1)) (replicate 20 (pos 0)) (refused 20 6) masses (set (replicate 20 (pos 0)) 6 (pos 1)) (replicate 20 (pos 0))
+still-there : AddingIs Bench 4 5 [] masses (set (replicate 20 (pos 0)) 6 (pos 1)) (replicate 20 (pos 0)) (refused 20 6) masses (set (replicate 20 (pos 0)) 6 (pos 1)) (replicate 20 (pos 0))
 unfolding nodeMass nodeMomentum setFrom checkedForces beginAnswer entryAnswer checkNode checkNodes addedGrids addingAnswer
 still-there = record { answer = refl; left-is = refl }
 
 -- 1 where a buffer is one short, before any node is looked at
-short : addingAnswer 4 5 [] (gridsOf masses (replicate 19 (pos 1)) (replicate 20 (pos 0))) ≡ refused 1 0
+short : addingAnswer Bench 4 5 [] (gridsOf masses (replicate 19 (pos 1)) (replicate 20 (pos 0))) ≡ refused 1 0
 unfolding checkedForces beginAnswer entryAnswer addingAnswer
 short = refl

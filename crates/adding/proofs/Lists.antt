@@ -37,7 +37,7 @@ module _ {A : Type 0} where
   part-each P (taken o) e = (e .0, part-each P o (e .1))
   part-each P (passed o) e = part-each P o (e .1)
 
-  part-length : {xs ys : List A} → InOrder xs ys → length xs ≤ length ys
+  pub part-length : {xs ys : List A} → InOrder xs ys → length xs ≤ length ys
   part-length none = omega arith
   part-length (taken o) = let h = part-length o in omega arith
   part-length (passed o) = let h = part-length o in omega arith

@@ -6,6 +6,7 @@ use mathlib.Core.Path.{_≡_, refl, sym, ap, ap₂, _∙_, subst}
 use mathlib.Core.Bool.{true, _&&_}
 use mathlib.Core.List.{List, [], _∷_, _++_, map, append-assoc, append-nil}
 use Prim.Native.Nat.{ℕ, _*_, _≤_}
+use native.Mathlib.Nat.{le-trans}
 use native.Mathlib.Omega.{arith}
 use lib.ListN.{length, getD, take, drop, length-replicate}
 use lib.IntN.{ℤ, pos}
@@ -14,7 +15,8 @@ use Rattle.arith.specs.Size.{bound-widen}
 use Rattle.arith.specs.Sums.{Each, each-map}
 use Rattle.refusal.specs.Refused.{Answer, result, refused, andThen, Leaves}
 use Rattle.refusal.proofs.Answers.{same-result, went-on}
-use Rattle.limits.specs.Limits.{mostTotalMass, mostNodeMass, mostPresentMomentum}
+use Rattle.limits.specs.declared.Caller.{Caller}
+use Rattle.limits.specs.Limits.{mostTotalMass, mostNodeMass, mostPresentMomentum, CallerLimits}
 use Rattle.spline.specs.Spline.{D}
 use Rattle.particle.specs.declared.Particle.{Particle}
 use Rattle.particle.specs.Layout.{recordLength}
@@ -23,7 +25,8 @@ use Rattle.apic.specs.Limits.{SizeLimits, ParticleLimits, SetLimits}
 use Rattle.apic.proofs.Bounds.{Limited, limited-set, limited-prefix}
 use Rattle.apic.proofs.Spline.{spline-lawful}
 use Rattle.particles.specs.Set.{setAnswer, recordsOf}
-use Rattle.particles.proofs.Accepted.{accepted-limits, accepted-records, limits-accepted}
+use Rattle.particles.proofs.Checks.{bench-accepts}
+use Rattle.particles.proofs.Accepted.{accepted-limits, accepted-within, accepted-records, within-accepted}
 use Rattle.settings.specs.Settings.{still}
 use Rattle.entry.specs.declared.Buffers.{Buffers}
 use Rattle.entry.specs.declared.Buffers.the-variants.{Three}
@@ -39,7 +42,7 @@ use Rattle.adding.specs.Adding.{checkNodes, gridSums, addedGrids, adding
 use Rattle.adding.specs.Sections.{ScatterIsAdding, ScattersAlike, SectionsAdded, CutAdded, StaysPresent, PresentUpdated, AddedUpdated, joined, addingAll, zeros, zeroGrids, Present}
 use Rattle.adding.proofs.Nodes.{present-moderate, moderate-present, nodes-pass, sums-present}
 use Rattle.adding.proofs.Scattered.{some-columns, scattered-moderate, scattered-none, scattered-sum, light-sum, length-mass, length-x, length-y}
-use Rattle.adding.proofs.Lists.{part-limits, total-rearranged, scattered-rearranged, parts-each, front-in-order, back-in-order, cut-together, turned-together, records-cut}
+use Rattle.adding.proofs.Lists.{part-length, part-limits, total-rearranged, scattered-rearranged, parts-each, front-in-order, back-in-order, cut-together, turned-together, records-cut}
 
 -- ---- particles added to what other particles left
 
@@ -58,36 +61,32 @@ module _ (nx ny : ℕ) (sizes : SizeLimits nx ny) (qs rs : List Particle) (limit
 
 -- ---- an accepted set on grids of its size
 
-pub scatters : (nx ny : ℕ) (records : List ℕ) {ps : List Particle} {mass x y : ℕ} → setAnswer nx ny records ≡ result ps → Long (nx * ny) mass x y → scatterAnswer nx ny records mass x y ≡ result ps
-scatters nx ny records {mass = mass} {x = x} {y = y} e l =
-    enters (still nx ny) (Three mass x y) 0 records
-    (record {
-      set = e;
-      long = three-long l;
-      forces = record { gravity-x = omega arith; gravity-y = omega arith; edge = refl; drag = omega arith };
-      few = omega arith;
-    })
+pub scatters : (caller : Caller) (nx ny : ℕ) (records : List ℕ) {ps : List Particle} {mass x y : ℕ} → setAnswer caller nx ny records ≡ result ps → Long (nx * ny) mass x y → scatterAnswer caller nx ny records mass x y ≡ result ps
+scatters caller nx ny records {mass = mass} {x = x} {y = y} e l =
+    enters caller (still nx ny) (Three mass x y) 0 records e (three-long l)
+    (record { gravity-x = omega arith; gravity-y = omega arith; edge = refl; drag = omega arith })
+    (omega arith)
 
-module _ (nx ny : ℕ) (records : List ℕ) (a b c : ℕ) {ps : List Particle} (e : scatterAnswer nx ny records a b c ≡ result ps) where
+module _ (caller : Caller) (nx ny : ℕ) (records : List ℕ) (a b c : ℕ) {ps : List Particle} (e : scatterAnswer caller nx ny records a b c ≡ result ps) where
   set-limits : SetLimits nx ny ps
-  set-limits = accepted-limits nx ny records (accepted (still nx ny) (Three a b c) 0 records e .set)
+  set-limits = accepted-limits nx ny records (accepted caller (still nx ny) (Three a b c) 0 records e .set)
 
   long : Long (nx * ny) a b c
-  long = long-three (nx * ny) a b c (accepted (still nx ny) (Three a b c) 0 records e .long)
+  long = long-three (nx * ny) a b c (accepted caller (still nx ny) (Three a b c) 0 records e .long)
 
 -- ---- scatter
 
 pub scatter-is-adding : ScatterIsAdding
 unfolding addingAnswer
-scatter-is-adding nx ny records a b c =
-    (λ t. andThen (scatterAnswer nx ny records (length-replicate {A = ℕ} a 0 t) (length-replicate b (pos 0) t) (length-replicate c (pos 0) t)) (λ ps. addedGrids (nx * ny) (zeros a b c) (scatterOf nx ny ps)))
-    ∙ by-answer (scatterAnswer nx ny records a b c) refl
+scatter-is-adding caller nx ny records a b c =
+    (λ t. andThen (scatterAnswer caller nx ny records (length-replicate {A = ℕ} a 0 t) (length-replicate b (pos 0) t) (length-replicate c (pos 0) t)) (λ ps. addedGrids (nx * ny) (zeros a b c) (scatterOf nx ny ps)))
+    ∙ by-answer (scatterAnswer caller nx ny records a b c) refl
   where
-    by-answer : (r : Answer (List Particle)) → scatterAnswer nx ny records a b c ≡ r → andThen r (λ ps. addedGrids (nx * ny) (zeros a b c) (scatterOf nx ny ps)) ≡ andThen r (λ ps. result (scatterOf nx ny ps))
+    by-answer : (r : Answer (List Particle)) → scatterAnswer caller nx ny records a b c ≡ r → andThen r (λ ps. addedGrids (nx * ny) (zeros a b c) (scatterOf nx ny ps)) ≡ andThen r (λ ps. result (scatterOf nx ny ps))
     by-answer (refused n k) e = refl
     by-answer (result ps) e =
-        let l = long nx ny records a b c e in
-        let limits = set-limits nx ny records a b c e in
+        let l = long caller nx ny records a b c e in
+        let limits = set-limits caller nx ny records a b c e in
         ap (λ g. addedGrids (nx * ny) g (scatterOf nx ny ps))
         ((λ t. zeros (l .mass-is t) (l .x-is t) (l .y-is t)) ∙ scattered-none nx ny)
         ∙ more-added nx ny (limits .sizes) [] ps (limited-set limits) (limits .each)
@@ -103,7 +102,7 @@ module _ {A B : Type 0} (new : A → B) {old left : B} {told : Answer Unit} wher
   of-result (refused n k) l = record { answer = l .answer; left-is = l .left-is }
 
 pub scatters-alike : ScattersAlike
-scatters-alike nx ny records a b c told mass px py = (
+scatters-alike caller nx ny records a b c told mass px py = (
   λ h. subst promise (sym same) (as-result (scatterOf nx ny) answer h),
   λ h. of-result (scatterOf nx ny) answer (subst promise same h),
 )
@@ -112,69 +111,79 @@ scatters-alike nx ny records a b c told mass px py = (
     g = zeros a b c
 
     answer : Answer (List Particle)
-    answer = scatterAnswer nx ny records (length (g .mass)) (length (g .x)) (length (g .y))
+    answer = scatterAnswer caller nx ny records (length (g .mass)) (length (g .x)) (length (g .y))
 
     promise : Answer Grids → Type 0
     promise r = Leaves r (λ y. y) g told (gridsOf mass px py)
 
-    same : addingAnswer nx ny records g ≡ andThen answer (λ ps. result (scatterOf nx ny ps))
+    same : addingAnswer caller nx ny records g ≡ andThen answer (λ ps. result (scatterOf nx ny ps))
     same =
-        scatter-is-adding nx ny records a b c
-        ∙ (λ t. andThen (scatterAnswer nx ny records (sym (length-replicate {A = ℕ} a 0) t) (sym (length-replicate b (pos 0)) t) (sym (length-replicate c (pos 0)) t)) (λ ps. result (scatterOf nx ny ps)))
+        scatter-is-adding caller nx ny records a b c
+        ∙ (λ t. andThen (scatterAnswer caller nx ny records (sym (length-replicate {A = ℕ} a 0) t) (sym (length-replicate b (pos 0)) t) (sym (length-replicate c (pos 0)) t)) (λ ps. result (scatterOf nx ny ps)))
 
 -- ---- sections
 
-module _ (nx ny : ℕ) (sizes : SizeLimits nx ny) where
-  one-added : (qs rs : List Particle) → SetLimits nx ny rs → Limited nx ny (qs ++ rs) → addingAnswer nx ny (recordsOf rs) (scatterOf nx ny qs) ≡ result (scatterOf nx ny (qs ++ rs))
-  unfolding addingAnswer
-  one-added qs rs set limits =
-      ap (λ a. andThen a (λ ps. addedGrids (nx * ny) (scatterOf nx ny qs) (scatterOf nx ny ps)))
-      (scatters nx ny (recordsOf rs) (limits-accepted nx ny rs set) (record { mass-is = length-mass nx ny qs; x-is = length-x nx ny qs; y-is = length-y nx ny qs }))
-      ∙ more-added nx ny sizes qs rs limits (set .each)
+module _ (caller : Caller) (nx ny : ℕ) (sizes : SizeLimits nx ny) where
+  -- a part that is an accepted set
+  record Part (part : List Particle) : Type 0 where
+    limits : SetLimits nx ny part
+    within : CallerLimits caller nx ny (length part)
 
-  parts-added : (qs : List Particle) (parts : List (List Particle)) → Each (SetLimits nx ny) parts → Limited nx ny (qs ++ joined parts) → addingAll nx ny (map recordsOf parts) (scatterOf nx ny qs) ≡ result (scatterOf nx ny (qs ++ joined parts))
+  accepts : (part : List Particle) → Part part → setAnswer caller nx ny (recordsOf part) ≡ result part
+  accepts part p = within-accepted caller nx ny part (p .limits) (p .within)
+
+  one-added : (qs rs : List Particle) → Part rs → Limited nx ny (qs ++ rs) → addingAnswer caller nx ny (recordsOf rs) (scatterOf nx ny qs) ≡ result (scatterOf nx ny (qs ++ rs))
+  unfolding addingAnswer
+  one-added qs rs part limits =
+      ap (λ a. andThen a (λ ps. addedGrids (nx * ny) (scatterOf nx ny qs) (scatterOf nx ny ps)))
+      (scatters caller nx ny (recordsOf rs) (accepts rs part) (record { mass-is = length-mass nx ny qs; x-is = length-x nx ny qs; y-is = length-y nx ny qs }))
+      ∙ more-added nx ny sizes qs rs limits (part .limits .each)
+
+  parts-added : (qs : List Particle) (parts : List (List Particle)) → Each Part parts → Limited nx ny (qs ++ joined parts) → addingAll caller nx ny (map recordsOf parts) (scatterOf nx ny qs) ≡ result (scatterOf nx ny (qs ++ joined parts))
   unfolding addingAll
   parts-added qs [] sets limits = ap (λ ps. result (scatterOf nx ny ps)) (sym (append-nil qs))
   parts-added qs (part ∷ parts) sets limits =
       let whole = subst (Limited nx ny) (sym (append-assoc qs part (joined parts))) limits in
-      ap (λ a. andThen a (λ h. addingAll nx ny (map recordsOf parts) h)) (one-added qs part (sets .0) (limited-prefix (qs ++ part) (joined parts) whole))
+      ap (λ a. andThen a (λ h. addingAll caller nx ny (map recordsOf parts) h)) (one-added qs part (sets .0) (limited-prefix (qs ++ part) (joined parts) whole))
       ∙ parts-added (qs ++ part) parts (sets .1) whole
       ∙ ap (λ ps. result (scatterOf nx ny ps)) (append-assoc qs part (joined parts))
 
 pub sections-added : SectionsAdded
-sections-added nx ny records ps bytes e parts of =
-    let limits = accepted-limits nx ny records e in
-    let sets = each-map _ (SetLimits nx ny) (λ part o. part-limits o limits) parts (of .in-order) in
-    let light : Limited nx ny (joined parts) = record { each = parts-each (ParticleLimits nx ny) parts (each-map (SetLimits nx ny) _ (λ part l. l .each) parts sets); mass = subst (λ m. m ≤ mostTotalMass) (sym (total-rearranged (λ p. p .mass) (of .together))) (limits .mass) } in
+sections-added caller nx ny records ps bytes e parts of =
+    let bench = bench-accepts caller nx ny records e in
+    let limits = accepted-limits nx ny records bench in
+    let within = accepted-within caller nx ny records e in
+    let sets = each-map _ (Part caller nx ny (limits .sizes)) (λ part o. record { limits = part-limits o limits; within = record { x-within = within .x-within; y-within = within .y-within; records-within = le-trans (part-length o) (within .records-within) } }) parts (of .in-order) in
+    let light : Limited nx ny (joined parts) = record { each = parts-each (ParticleLimits nx ny) parts (each-map (Part caller nx ny (limits .sizes)) _ (λ part p. p .limits .each) parts sets); mass = subst (λ m. m ≤ mostTotalMass) (sym (total-rearranged (λ p. p .mass) (of .together))) (limits .mass) } in
     record {
-      written = accepted-records nx ny records bytes e;
-      accepted = each-map (SetLimits nx ny) _ (λ part l. limits-accepted nx ny part l) parts sets;
+      written = accepted-records nx ny records bytes bench;
+      accepted = each-map (Part caller nx ny (limits .sizes)) _ (accepts caller nx ny (limits .sizes)) parts sets;
       grids =
-          ap (addingAll nx ny (map recordsOf parts)) (scattered-none nx ny)
-          ∙ parts-added nx ny (limits .sizes) [] parts sets light
+          ap (addingAll caller nx ny (map recordsOf parts)) (scattered-none nx ny)
+          ∙ parts-added caller nx ny (limits .sizes) [] parts sets light
           ∙ ap result (scattered-rearranged nx ny (of .together));
     }
 
 pub cut-added : CutAdded
-cut-added nx ny records ps bytes e k =
-    let is = accepted-records nx ny records bytes e in
+cut-added caller nx ny records ps bytes e k =
+    let is = accepted-records nx ny records bytes (bench-accepts caller nx ny records e) in
     let cut = records-cut k ps in
     let front = ap (take (recordLength * k)) is ∙ cut .0 in
     let back = ap (drop (recordLength * k)) is ∙ cut .1 in (
-      (λ t. addingAll nx ny (front t ∷ back t ∷ []) (zeroGrids (nx * ny)))
-          ∙ sections-added nx ny records ps bytes e (take k ps ∷ drop k ps ∷ []) (record { in-order = (front-in-order k ps, (back-in-order k ps, tt)); together = cut-together k ps }) .grids,
-      (λ t. addingAll nx ny (back t ∷ front t ∷ []) (zeroGrids (nx * ny)))
-          ∙ sections-added nx ny records ps bytes e (drop k ps ∷ take k ps ∷ []) (record { in-order = (back-in-order k ps, (front-in-order k ps, tt)); together = turned-together k ps }) .grids,
+      (λ t. addingAll caller nx ny (front t ∷ back t ∷ []) (zeroGrids (nx * ny)))
+          ∙ sections-added caller nx ny records ps bytes e (take k ps ∷ drop k ps ∷ []) (record { in-order = (front-in-order k ps, (back-in-order k ps, tt)); together = cut-together k ps }) .grids,
+      (λ t. addingAll caller nx ny (back t ∷ front t ∷ []) (zeroGrids (nx * ny)))
+          ∙ sections-added caller nx ny records ps bytes e (drop k ps ∷ take k ps ∷ []) (record { in-order = (back-in-order k ps, (front-in-order k ps, tt)); together = turned-together k ps }) .grids,
     )
 
 -- ---- what stays true
 
 pub stays-present : StaysPresent
 unfolding addingAnswer addedGrids
-stays-present nx ny records g h e =
-    let a = went-on (scatterAnswer nx ny records (length (g .mass)) (length (g .x)) (length (g .y))) _ e in
+stays-present caller nx ny records g h e =
+    let a = went-on (scatterAnswer caller nx ny records (length (g .mass)) (length (g .x)) (length (g .y))) _ e in
     let b = went-on (checkNodes (nx * ny) g (scatterOf nx ny (a .0) .mass)) _ (a .2) in
-    let limits = set-limits nx ny records (length (g .mass)) (length (g .x)) (length (g .y)) (a .1) in
+    let limits = set-limits caller nx ny records (length (g .mass)) (length (g .x)) (length (g .y)) (a .1) in
     subst (Present (nx * ny)) (same-result (b .2))
     (sums-present (nx * ny) g (scatterOf nx ny (a .0)) (scattered-moderate nx ny (some-columns (limits .sizes)) (a .0) (limited-set limits)) (b .1))
 
@@ -193,16 +202,16 @@ lengths g = Three (length (g .mass)) (length (g .x)) (length (g .y))
 
 pub present-updated : PresentUpdated
 unfolding updateAnswer
-present-updated s g present = by-answer (beginAnswer s (lengths g) 0 0) refl
+present-updated caller s g present = by-answer (beginAnswer caller s (lengths g) 0 0) refl
   where
-    by-answer : (a : Answer Unit) → beginAnswer s (lengths g) 0 0 ≡ a → andThen a (λ _. update.checkNodes D (s .nx * s .ny) (s .gx) (s .gy) (g .mass) (g .x) (g .y)) ≡ a
+    by-answer : (a : Answer Unit) → beginAnswer caller s (lengths g) 0 0 ≡ a → andThen a (λ _. update.checkNodes D (s .nx * s .ny) (s .gx) (s .gy) (g .mass) (g .x) (g .y)) ≡ a
     by-answer (refused n k) e = refl
     by-answer (result u) e =
-        let forces = passed-checks s (lengths g) 0 0 e .1 in
+        let forces = passed-checks caller s (lengths g) 0 0 e .1 in
         limits-nodes D (s .nx * s .ny) (s .gx) (s .gy) (g .mass) (g .x) (g .y)
         (λ k h.
         calm-limits D (s .gx) (s .gy) (getD (g .mass) k 0) (getD (g .x) k (pos 0)) (getD (g .y) k (pos 0)) (spline-lawful .spread) (forces .gravity-x) (forces .gravity-y)
         (present-calm (getD (g .mass) k 0) (getD (g .x) k (pos 0)) (getD (g .y) k (pos 0)) (present k h)))
 
 pub added-updated : AddedUpdated
-added-updated s records g h e = present-updated s h (stays-present (s .nx) (s .ny) records g h e)
+added-updated adds updates s records g h e = present-updated updates s h (stays-present adds (s .nx) (s .ny) records g h e)

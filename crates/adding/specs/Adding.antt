@@ -1,5 +1,5 @@
--- Document 02, paper 4: "an adding scatter puts a set on a grid that already holds masses and momenta". What it answers for any
--- numbers and any buffers, and what the grids hold afterwards. Assumes nothing.
+-- Document 02, paper 4: "an adding scatter puts a set on a grid that already holds masses and momenta". What it answers to a
+-- caller for any numbers and any buffers, and what the grids hold afterwards. Assumes nothing.
 use mathlib.Core.Bool.{Bool, not}
 use mathlib.Core.List.{List, map}
 use Prim.Native.Nat.{ℕ, _+_, _*_}
@@ -9,6 +9,7 @@ use lib.IntN.{ℤ, pos, _+ℤ_}
 use Rattle.arith.specs.Sums.{upTo}
 use Rattle.refusal.specs.Refused.{Answer, result, refuseIf, andThen, done, forEach, Leaves}
 use Rattle.limits.specs.Limits.{mostNodeMass, mostPresentMomentum}
+use Rattle.limits.specs.declared.Caller.{Caller}
 use Rattle.apic.specs.Step.{Grids, gridsOf}
 use Rattle.node_momentum.specs.Momentum.{momentaWithin}
 use Rattle.transfer.specs.Transfer.{scatterAnswer, scatterOf}
@@ -48,16 +49,16 @@ addedGrids n g h = andThen (checkNodes n g (h .mass)) (λ _. result (gridSums n 
 
 -- ---- the operation
 
--- 2; 1, also for the grid buffers; the set; then what scatter makes of its particles is added
-unfoldable pub addingAnswer : ℕ → ℕ → List ℕ → Grids → Answer Grids
-addingAnswer nx ny records g =
-    andThen (scatterAnswer nx ny records (length (g .mass)) (length (g .x)) (length (g .y)))
+-- 2; 1, also for the grid buffers; 3; the set; then what scatter makes of its particles is added
+unfoldable pub addingAnswer : Caller → ℕ → ℕ → List ℕ → Grids → Answer Grids
+addingAnswer caller nx ny records g =
+    andThen (scatterAnswer caller nx ny records (length (g .mass)) (length (g .x)) (length (g .y)))
     (λ ps. addedGrids (nx * ny) g (scatterOf nx ny ps))
 
 -- what is told of an answer, and the three grids that are left: its result, or what they were
 abbrev pub Adds : Answer Grids → List ℕ → List ℤ → List ℤ → Answer Unit → List ℕ → List ℤ → List ℤ → Type 0
 Adds a mass px py told mass′ px′ py′ = Leaves a (λ g. g) (gridsOf mass px py) told (gridsOf mass′ px′ py′)
 
-abbrev pub AddingIs : ℕ → ℕ → List ℕ → List ℕ → List ℤ → List ℤ → Answer Unit → List ℕ → List ℤ → List ℤ → Type 0
-AddingIs nx ny records mass px py told mass′ px′ py′ =
-    Adds (addingAnswer nx ny records (gridsOf mass px py)) mass px py told mass′ px′ py′
+abbrev pub AddingIs : Caller → ℕ → ℕ → List ℕ → List ℕ → List ℤ → List ℤ → Answer Unit → List ℕ → List ℤ → List ℤ → Type 0
+AddingIs caller nx ny records mass px py told mass′ px′ py′ =
+    Adds (addingAnswer caller nx ny records (gridsOf mass px py)) mass px py told mass′ px′ py′

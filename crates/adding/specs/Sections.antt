@@ -1,4 +1,4 @@
--- Document 02, paper 4: what the adding scatter is for. Named statements about what it promises, proved in proofs/.
+-- Document 02, paper 4: what the adding scatter is for. Named statements about what it promises every caller, proved in proofs/.
 --     ScatterIsAdding, ScattersAlike
 --                           scatter is the adding scatter on a zero grid
 --     SectionsAdded         the parts of an accepted set, added to a zero grid in any order, give the grid of the whole set
@@ -15,6 +15,7 @@ use lib.ListN.{length, getD, take, drop, replicate}
 use lib.IntN.{ℤ, pos}
 use Rattle.arith.specs.Sums.{Each}
 use Rattle.refusal.specs.Refused.{Answer, result, andThen}
+use Rattle.limits.specs.declared.Caller.{Caller}
 use Rattle.particle.specs.declared.Particle.{Particle}
 use Rattle.particle.specs.Layout.{recordLength}
 use Rattle.particles.specs.Set.{Bytes, setAnswer, recordsOf}
@@ -35,17 +36,17 @@ zeros a b c = gridsOf (replicate a 0) (replicate b (pos 0)) (replicate c (pos 0)
 -- the same answer and the same grids, for buffers of any lengths
 abbrev pub ScatterIsAdding : Type 0
 ScatterIsAdding =
-    (nx ny : ℕ) (records : List ℕ) (a b c : ℕ) →
-    addingAnswer nx ny records (zeros a b c)
-    ≡ andThen (scatterAnswer nx ny records a b c) (λ ps. result (scatterOf nx ny ps))
+    (caller : Caller) (nx ny : ℕ) (records : List ℕ) (a b c : ℕ) →
+    addingAnswer caller nx ny records (zeros a b c)
+    ≡ andThen (scatterAnswer caller nx ny records a b c) (λ ps. result (scatterOf nx ny ps))
 
 -- so what either scatter tells and leaves of grids of zeros the other does, refused calls too
 abbrev pub ScattersAlike : Type 0
 ScattersAlike =
-    (nx ny : ℕ) (records : List ℕ) (a b c : ℕ) (told : Answer Unit) (mass : List ℕ) (px py : List ℤ) →
+    (caller : Caller) (nx ny : ℕ) (records : List ℕ) (a b c : ℕ) (told : Answer Unit) (mass : List ℕ) (px py : List ℤ) →
     let g = zeros a b c in
-    (ScatterIs nx ny records (g .mass) (g .x) (g .y) told mass px py → AddingIs nx ny records (g .mass) (g .x) (g .y) told mass px py)
-    × (AddingIs nx ny records (g .mass) (g .x) (g .y) told mass px py → ScatterIs nx ny records (g .mass) (g .x) (g .y) told mass px py)
+    (ScatterIs caller nx ny records (g .mass) (g .x) (g .y) told mass px py → AddingIs caller nx ny records (g .mass) (g .x) (g .y) told mass px py)
+    × (AddingIs caller nx ny records (g .mass) (g .x) (g .y) told mass px py → ScatterIs caller nx ny records (g .mass) (g .x) (g .y) told mass px py)
 
 -- ---- sections
 
@@ -53,9 +54,9 @@ abbrev pub zeroGrids : ℕ → Grids
 zeroGrids n = zeros n n n
 
 -- one call for each of these sets, on the grids that the call before left
-unfoldable pub addingAll : ℕ → ℕ → List (List ℕ) → Grids → Answer Grids
-addingAll nx ny [] g = result g
-addingAll nx ny (records ∷ sets) g = andThen (addingAnswer nx ny records g) (λ h. addingAll nx ny sets h)
+unfoldable pub addingAll : Caller → ℕ → ℕ → List (List ℕ) → Grids → Answer Grids
+addingAll caller nx ny [] g = result g
+addingAll caller nx ny (records ∷ sets) g = andThen (addingAnswer caller nx ny records g) (λ h. addingAll caller nx ny sets h)
 
 -- xs are elements of ys, in the order that they have there
 pub data InOrder {A : Type 0} : List A → List A → Type 0 where
@@ -80,23 +81,23 @@ pub record PartsOf (ps : List Particle) (parts : List (List Particle)) : Type 0 
   pub together : Rearranged (joined parts) ps
 
 -- the particles' records are the set's; each part is itself an accepted set; and no call is refused
-pub record Sections (nx ny : ℕ) (records : List ℕ) (ps : List Particle) (parts : List (List Particle)) : Type 0 where
+pub record Sections (caller : Caller) (nx ny : ℕ) (records : List ℕ) (ps : List Particle) (parts : List (List Particle)) : Type 0 where
   pub written : records ≡ recordsOf ps
-  pub accepted : Each (λ part. setAnswer nx ny (recordsOf part) ≡ result part) parts
-  pub grids : addingAll nx ny (map recordsOf parts) (zeroGrids (nx * ny)) ≡ result (scatterOf nx ny ps)
+  pub accepted : Each (λ part. setAnswer caller nx ny (recordsOf part) ≡ result part) parts
+  pub grids : addingAll caller nx ny (map recordsOf parts) (zeroGrids (nx * ny)) ≡ result (scatterOf nx ny ps)
 
 abbrev pub SectionsAdded : Type 0
 SectionsAdded =
-    (nx ny : ℕ) (records : List ℕ) (ps : List Particle) → Bytes records → setAnswer nx ny records ≡ result ps →
-    (parts : List (List Particle)) → PartsOf ps parts → Sections nx ny records ps parts
+    (caller : Caller) (nx ny : ℕ) (records : List ℕ) (ps : List Particle) → Bytes records → setAnswer caller nx ny records ≡ result ps →
+    (parts : List (List Particle)) → PartsOf ps parts → Sections caller nx ny records ps parts
 
 -- the bytes of the records before record k, and the others
 abbrev pub CutAdded : Type 0
 CutAdded =
-    (nx ny : ℕ) (records : List ℕ) (ps : List Particle) → Bytes records → setAnswer nx ny records ≡ result ps →
+    (caller : Caller) (nx ny : ℕ) (records : List ℕ) (ps : List Particle) → Bytes records → setAnswer caller nx ny records ≡ result ps →
     (k : ℕ) →
-    (addingAll nx ny (take (recordLength * k) records ∷ drop (recordLength * k) records ∷ []) (zeroGrids (nx * ny)) ≡ result (scatterOf nx ny ps))
-    × (addingAll nx ny (drop (recordLength * k) records ∷ take (recordLength * k) records ∷ []) (zeroGrids (nx * ny)) ≡ result (scatterOf nx ny ps))
+    (addingAll caller nx ny (take (recordLength * k) records ∷ drop (recordLength * k) records ∷ []) (zeroGrids (nx * ny)) ≡ result (scatterOf nx ny ps))
+    × (addingAll caller nx ny (drop (recordLength * k) records ∷ take (recordLength * k) records ∷ []) (zeroGrids (nx * ny)) ≡ result (scatterOf nx ny ps))
 
 -- ---- what stays true
 
@@ -106,16 +107,17 @@ Present n g = (k : ℕ) → k < n → validPresent (getD (g .mass) k 0) (getD (g
 
 abbrev pub StaysPresent : Type 0
 StaysPresent =
-    (nx ny : ℕ) (records : List ℕ) (g h : Grids) → addingAnswer nx ny records g ≡ result h → Present (nx * ny) h
+    (caller : Caller) (nx ny : ℕ) (records : List ℕ) (g h : Grids) → addingAnswer caller nx ny records g ≡ result h → Present (nx * ny) h
 
 -- Update answers what it does before it looks at a node
-abbrev pub NoNodeRefused : Settings → Grids → Type 0
-NoNodeRefused s g =
-    updateAnswer s (g .mass) (g .x) (g .y) ≡ beginAnswer s (Three (length (g .mass)) (length (g .x)) (length (g .y))) 0 0
+abbrev pub NoNodeRefused : Caller → Settings → Grids → Type 0
+NoNodeRefused caller s g =
+    updateAnswer caller s (g .mass) (g .x) (g .y) ≡ beginAnswer caller s (Three (length (g .mass)) (length (g .x)) (length (g .y))) 0 0
 
 abbrev pub PresentUpdated : Type 0
-PresentUpdated = (s : Settings) (g : Grids) → Present (s .nx * s .ny) g → NoNodeRefused s g
+PresentUpdated = (caller : Caller) (s : Settings) (g : Grids) → Present (s .nx * s .ny) g → NoNodeRefused caller s g
 
+-- whoever added, and whoever updates
 abbrev pub AddedUpdated : Type 0
 AddedUpdated =
-    (s : Settings) (records : List ℕ) (g h : Grids) → addingAnswer (s .nx) (s .ny) records g ≡ result h → NoNodeRefused s h
+    (adds updates : Caller) (s : Settings) (records : List ℕ) (g h : Grids) → addingAnswer adds (s .nx) (s .ny) records g ≡ result h → NoNodeRefused updates s h

@@ -1,4 +1,5 @@
 // The adding scatter: a set is scattered on grids of its own, and these are added to those that are lent.
+use limits::Caller;
 use limits::MOST_SIDE;
 use particles::Checked;
 use transfer::Scattered;
@@ -79,6 +80,7 @@ fn add_large(
 
 // Adds a set to the masses and momenta that the grids hold, node by node. A refused call leaves them as they were.
 pub fn adding_scatter(
+    caller: Caller,
     nx: usize,
     ny: usize,
     records: &[u8],
@@ -86,9 +88,9 @@ pub fn adding_scatter(
     px: &mut [i64],
     py: &mut [i64],
 ) -> Scattered
-    ensures { λ r. ⌜ AddingIs nx ny (now (records .entry)) (now (mass .entry)) (now (px .entry)) (now (py .entry)) (toldScattered r) (now (mass .exit)) (now (px .exit)) (now (py .exit)) ⌝ }
+    ensures { λ r. ⌜ AddingIs caller nx ny (now (records .entry)) (now (mass .entry)) (now (px .entry)) (now (py .entry)) (toldScattered r) (now (mass .exit)) (now (px .exit)) (now (py .exit)) ⌝ }
 {
-    match scatter::check_scatter(nx, ny, records, mass.len(), px.len(), py.len()) {
+    match scatter::check_scatter(caller, nx, ny, records, mass.len(), px.len(), py.len()) {
         Checked::Refused(refusal) => Scattered::Refused(refusal),
         Checked::Records(_) => {
             // An array is cleared at each call, so a grid takes the smaller where that has room.

@@ -16,6 +16,7 @@ use Rattle.refusal.proofs.Answers.{not-result}
 use Rattle.arith.specs.Order.{linear, reading, _&_}
 use Rattle.arith.specs.Solver.{ring, quote}
 use Rattle.arith.specs.Sums.{Each, each-map}
+use Rattle.limits.specs.declared.Caller.{Caller}
 use Rattle.spline.specs.Spline.{axisWeight, D}
 use Rattle.particle.specs.declared.Particle.{Particle}
 use Rattle.particles.specs.Set.{recordsOf, particlesIn}
@@ -43,7 +44,7 @@ module _ {w : ℕ → ℕ → ℤ} {d : ℕ} (law : Lawful w d) (s : Settings) (
       (each-map (ParticleLimits (s .nx) (s .ny)) _ (λ p h. h .mass-least) ps (limits .each))
       follows qs e
 
-module _ (s : Settings) (unforced : Unforced s) (f : Flow) (records : List ℕ) (follows : Each (Follows D 4 f) (particlesIn records)) (grids : Grids) where
+module _ (caller : Caller) (s : Settings) (unforced : Unforced s) (f : Flow) (records : List ℕ) (follows : Each (Follows D 4 f) (particlesIn records)) (grids : Grids) where
   abbrev Kept : List ℕ → Type 0
   Kept after = EachPair (MovedBy 1) (particlesIn records) (particlesIn after)
 
@@ -59,18 +60,18 @@ module _ (s : Settings) (unforced : Unforced s) (f : Flow) (records : List ℕ) 
           (subst (Each (Follows D 4 f)) (ready .holds) follows) e))
       go (refused n k) e = rw e (λ is-done. not-result is-done)
 
-  after-step : stepAfter s records grids .answer ≡ done → Kept (stepAfter s records grids .records)
+  after-step : stepAfter caller s records grids .answer ≡ done → Kept (stepAfter caller s records grids .records)
   unfolding stepAfter
-  after-step = go (stepEntry s records grids) refl
+  after-step = go (stepEntry caller s records grids) refl
     where
-      go : (a : Answer (List Particle)) → stepEntry s records grids ≡ a → stepAfter s records grids .answer ≡ done → Kept (stepAfter s records grids .records)
-      go (result ps) e = rw e (from-step ps (ready-step s records grids e))
+      go : (a : Answer (List Particle)) → stepEntry caller s records grids ≡ a → stepAfter caller s records grids .answer ≡ done → Kept (stepAfter caller s records grids .records)
+      go (result ps) e = rw e (from-step ps (ready-step caller s records grids e))
       go (refused n k) e = rw e (λ is-done. not-result is-done)
 
 pub step-keeps-flow : StepKeepsFlow
-step-keeps-flow s unforced f records follows grids told after mass x y sees is-done =
+step-keeps-flow caller s unforced f records follows grids told after mass x y sees is-done =
     subst (λ bytes. EachPair (MovedBy 1) (particlesIn records) (particlesIn bytes)) (sym (sees .records))
-    (after-step s unforced f records follows grids (sym (sees .answer) ∙ is-done))
+    (after-step caller s unforced f records follows grids (sym (sees .answer) ∙ is-done))
 
 -- ---- a run
 
@@ -140,18 +141,18 @@ module _ {w : ℕ → ℕ → ℤ} {d : ℕ} (law : Lawful w d) (s : Settings) (
           })
       go further (refused k p) e = rw e (record { unstopped = λ is-done. not-result is-done; each = stays ready })
 
-after-run : (s : Settings) → Unforced s → (A : Axis → ℤ) (records : List ℕ) → Each (Follows D 4 (drift A)) (particlesIn records) → (steps : ℕ) (grids : Grids) → Ends steps (particlesIn records) (runAfter s steps records grids)
+after-run : (caller : Caller) (s : Settings) → Unforced s → (A : Axis → ℤ) (records : List ℕ) → Each (Follows D 4 (drift A)) (particlesIn records) → (steps : ℕ) (grids : Grids) → Ends steps (particlesIn records) (runAfter caller s steps records grids)
 unfolding runAfter
-after-run s unforced A records follows steps grids = go (runEntry s steps records grids) refl
+after-run caller s unforced A records follows steps grids = go (runEntry caller s steps records grids) refl
   where
-    go : (a : Answer (List Particle)) → runEntry s steps records grids ≡ a → Ends steps (particlesIn records) (runAfter s steps records grids)
+    go : (a : Answer (List Particle)) → runEntry caller s steps records grids ≡ a → Ends steps (particlesIn records) (runAfter caller s steps records grids)
     go (result ps) e =
-        let ready = ready-run s records steps grids e in
+        let ready = ready-run caller s records steps grids e in
         let ends = run-drifts spline-lawful s unforced A steps records ps grids ready (subst (Each (Follows D 4 (drift A))) (ready .holds) follows) in
         rw e (subst (λ qs. Ends steps qs (runFrom s steps records ps grids)) (sym (ready .holds)) ends)
     go (refused n k) e = rw e (record { unstopped = λ is-done. not-result is-done; each = pair-same (MovedBy 0) unmoved (particlesIn records) })
 
 pub run-keeps-drift : RunKeepsDrift
-run-keeps-drift s unforced A records follows steps grids told after mass x y sees =
+run-keeps-drift caller s unforced A records follows steps grids told after mass x y sees =
     subst₂ (λ t bytes. Drifts steps t (particlesIn records) (particlesIn bytes)) (sym (sees .answer)) (sym (sees .records))
-    (after-run s unforced A records follows steps grids)
+    (after-run caller s unforced A records follows steps grids)

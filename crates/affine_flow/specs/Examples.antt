@@ -9,6 +9,7 @@ use lib.ListN.{replicate}
 use lib.IntN.{ℤ, pos, negℤ}
 use Rattle.refusal.specs.Refused.{Answer, result, refused, done}
 use Rattle.arith.specs.Sums.{Each}
+use Rattle.limits.specs.declared.Caller.the-variants.{Bench}
 use Rattle.particle.specs.declared.Particle.{Particle}
 use Rattle.particles.specs.Set.{recordsOf, checkAnswer}
 use Rattle.settings.specs.Settings.{still}
@@ -153,16 +154,16 @@ abbrev lent : Grids
 lent = record { mass = replicate 30 3; x = replicate 30 (pos 5); y = replicate 30 (negℤ (pos 7)) }
 
 abbrev stepping : List Particle → After (Answer Unit)
-stepping ps = stepAfter (still 6 5) (recordsOf ps) lent
+stepping ps = stepAfter Bench (still 6 5) (recordsOf ps) lent
 
 abbrev running : ℕ → List Particle → After Completion
-running steps ps = runAfter (still 6 5) steps (recordsOf ps) lent
+running steps ps = runAfter Bench (still 6 5) steps (recordsOf ps) lent
 
 -- ---- the examples
 
 -- an accepted set of three, and a step of it that is done
 pub record Stepped (before after : List Particle) : Type 0 where
-  pub accepted : checkAnswer 6 5 (recordsOf before) ≡ result 3
+  pub accepted : checkAnswer Bench 6 5 (recordsOf before) ≡ result 3
   pub answer : stepping before .answer ≡ done
   pub left : stepping before .records ≡ recordsOf after
 

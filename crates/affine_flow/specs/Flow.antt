@@ -7,6 +7,7 @@ use Prim.Native.Nat.{ℕ, _*_, _<_, _≤_}
 use lib.IntN.{ℤ, pos, _+ℤ_, _*ℤ_}
 use Rattle.refusal.specs.Refused.{Answer, result, done}
 use Rattle.arith.specs.Sums.{Each}
+use Rattle.limits.specs.declared.Caller.{Caller}
 use Rattle.particle.specs.declared.Particle.{Particle}
 use Rattle.particles.specs.Set.{particlesIn}
 use Rattle.settings.specs.declared.Settings.{Settings}
@@ -65,8 +66,8 @@ EachPair R (x ∷ xs) (y ∷ ys) = R x y × EachPair R xs ys
 -- "a step that isn't refused", by what its promise says that a caller sees. A set that is not accepted is refused
 abbrev pub StepKeepsFlow : Type 0
 StepKeepsFlow =
-    (s : Settings) → Unforced s → (f : Flow) (records : List ℕ) → Each (Follows 1024 4 f) (particlesIn records) → (grids : Grids)
-    → (told : Answer Unit) (after mass : List ℕ) (x y : List ℤ) → Sees (stepAfter s records grids) told after mass x y
+    (caller : Caller) (s : Settings) → Unforced s → (f : Flow) (records : List ℕ) → Each (Follows 1024 4 f) (particlesIn records) → (grids : Grids)
+    → (told : Answer Unit) (after mass : List ℕ) (x y : List ℤ) → Sees (stepAfter caller s records grids) told after mass x y
     → told ≡ done → EachPair (MovedBy 1) (particlesIn records) (particlesIn after)
 
 -- ---- run
@@ -79,9 +80,9 @@ pub record Drifts (steps : ℕ) (told : Completion) (before after : List Particl
 -- "a uniform drift is the case B = 0": a run of any length, refused at entry or not, stopped or not
 abbrev pub RunKeepsDrift : Type 0
 RunKeepsDrift =
-    (s : Settings) → Unforced s → (A : Axis → ℤ) (records : List ℕ) → Each (Follows 1024 4 (drift A)) (particlesIn records)
+    (caller : Caller) (s : Settings) → Unforced s → (A : Axis → ℤ) (records : List ℕ) → Each (Follows 1024 4 (drift A)) (particlesIn records)
     → (steps : ℕ) (grids : Grids)
-    → (told : Completion) (after mass : List ℕ) (x y : List ℤ) → Sees (runAfter s steps records grids) told after mass x y
+    → (told : Completion) (after mass : List ℕ) (x y : List ℤ) → Sees (runAfter caller s steps records grids) told after mass x y
     → Drifts steps told (particlesIn records) (particlesIn after)
 
 -- ---- any weights, any D

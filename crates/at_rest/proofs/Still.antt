@@ -9,8 +9,9 @@ use Prim.Native.Nat.{ℕ, zero, suc}
 use Rattle.refusal.specs.Refused.{Answer, result, refused, done}
 use Rattle.refusal.proofs.Answers.{not-refused}
 use Rattle.arith.specs.Sums.{Each}
+use Rattle.limits.specs.declared.Caller.{Caller}
 use Rattle.particle.specs.declared.Particle.{Particle}
-use Rattle.particles.specs.Set.{recordsOf, particlesIn}
+use Rattle.particles.specs.Set.{recordsOf}
 use Rattle.particles.proofs.Accepted.{accepted-records, accepted-limits}
 use Rattle.unpacking.proofs.Sets.{particlesIn-accepted}
 use Rattle.entry.specs.Entry.{entryAnswer}
@@ -30,10 +31,10 @@ record Found (s : Settings) (records : List ℕ) (ps : List Particle) : Type 0 w
   written : recordsOf ps ≡ records
   stays : stepOf s ps ≡ result ps
 
-module _ (records : List ℕ) (still : Still records) (s : Settings) (gentle : Gentle s) where
-  found : (grids : Grids) (steps : ℕ) {ps : List Particle} → entryAnswer s (buffersOf grids) steps records ≡ result ps → Found s records ps
+module _ (records : List ℕ) (still : Still records) (caller : Caller) (s : Settings) (gentle : Gentle s) where
+  found : (grids : Grids) (steps : ℕ) {ps : List Particle} → entryAnswer caller s (buffersOf grids) steps records ≡ result ps → Found s records ps
   found grids steps {ps} e =
-      let a = accepted s (buffersOf grids) steps records e in
+      let a = accepted caller s (buffersOf grids) steps records e in
       record {
         written = sym (accepted-records (s .nx) (s .ny) records (still .bytes) (a .set));
         stays =
@@ -55,11 +56,11 @@ run-rests s (suc n) records ps grids found =
 
 pub still-rests : StillRests
 unfolding runEntry runAfter
-still-rests records still s gentle steps grids = go (runEntry s steps records grids) refl
+still-rests records still caller s gentle steps grids = go (runEntry caller s steps records grids) refl
   where
-    go : (a : Answer (List Particle)) → runEntry s steps records grids ≡ a → Rests s steps records grids
+    go : (a : Answer (List Particle)) → runEntry caller s steps records grids ≡ a → Rests caller s steps records grids
     go (result ps) e =
-        let ends = run-rests s steps records ps grids (found records still s gentle grids steps e) in
+        let ends = run-rests s steps records ps grids (found records still caller s gentle grids steps e) in
         record { left = rw e (ends .0); completes = λ qs f. rw e (ends .1) }
     go (refused n k) e = record { left = rw e refl; completes = λ qs f. not-refused (sym f ∙ e) }
 
@@ -67,12 +68,12 @@ still-rests records still s gentle steps grids = go (runEntry s steps records gr
 
 still-call : (records : List ℕ) → Still records → (c : Call) → Gentle (settingsOf c) → leaves c records ≡ records
 unfolding stepEntry stepFrom stepAfter
-still-call records still (step s grids) gentle = go (stepEntry s records grids) refl
+still-call records still (step caller s grids) gentle = go (stepEntry caller s records grids) refl
   where
-    go : (a : Answer (List Particle)) → stepEntry s records grids ≡ a → stepAfter s records grids .records ≡ records
-    go (result ps) e = let f = found records still s gentle grids 0 e in rw (e, f .stays) (f .written)
+    go : (a : Answer (List Particle)) → stepEntry caller s records grids ≡ a → stepAfter caller s records grids .records ≡ records
+    go (result ps) e = let f = found records still caller s gentle grids 0 e in rw (e, f .stays) (f .written)
     go (refused n k) e = rw e refl
-still-call records still (run s steps grids) gentle = still-rests records still s gentle steps grids .left
+still-call records still (run caller s steps grids) gentle = still-rests records still caller s gentle steps grids .left
 
 pub still-through-calls : StillThroughCalls
 unfolding leavesAll

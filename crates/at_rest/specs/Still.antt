@@ -6,6 +6,7 @@ use Prim.Native.Nat.{ℕ, _≤_}
 use lib.IntN.{natAbs}
 use Rattle.refusal.specs.Refused.{result, done}
 use Rattle.arith.specs.Sums.{Each}
+use Rattle.limits.specs.declared.Caller.{Caller}
 use Rattle.particle.specs.declared.Particle.{Particle}
 use Rattle.particles.specs.Set.{Bytes, particlesIn}
 use Rattle.settings.specs.declared.Settings.{Settings}
@@ -30,12 +31,13 @@ pub record Still (records : List ℕ) : Type 0 where
   pub at-rest : Each AtRest (particlesIn records)
 
 -- a run leaves the records; and where its checks at entry pass, it completes all its steps
-pub record Rests (s : Settings) (steps : ℕ) (records : List ℕ) (grids : Grids) : Type 0 where
-  pub left : runAfter s steps records grids .records ≡ records
-  pub completes : (ps : List Particle) → runEntry s steps records grids ≡ result ps → runAfter s steps records grids .answer ≡ record { completed = steps; stop = done }
+pub record Rests (caller : Caller) (s : Settings) (steps : ℕ) (records : List ℕ) (grids : Grids) : Type 0 where
+  pub left : runAfter caller s steps records grids .records ≡ records
+  pub completes : (ps : List Particle) → runEntry caller s steps records grids ≡ result ps → runAfter caller s steps records grids .answer ≡ record { completed = steps; stop = done }
 
 abbrev pub StillRests : Type 0
-StillRests = (records : List ℕ) → Still records → (s : Settings) → Gentle s → (steps : ℕ) (grids : Grids) → Rests s steps records grids
+StillRests =
+    (records : List ℕ) → Still records → (caller : Caller) (s : Settings) → Gentle s → (steps : ℕ) (grids : Grids) → Rests caller s steps records grids
 
 abbrev pub StillThroughCalls : Type 0
 StillThroughCalls =

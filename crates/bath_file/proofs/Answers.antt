@@ -15,6 +15,8 @@ use lib.Dec.{ltb}
 use lib.ListN.{length, take}
 use Rattle.refusal.specs.Refused.{Answer, result, refused, refuseIf, andThen, keptUnless}
 use Rattle.refusal.proofs.Answers.{passed, went-on, same-result, same-refusal, not-refused, wrong-length, right-length, length-passed}
+use Rattle.limits.specs.declared.Caller.{Caller}
+use Rattle.limits.specs.declared.Caller.the-variants.{Bench}
 use Rattle.particle.specs.Layout.{recordLength}
 use Rattle.particles.specs.Set.{setOf}
 use Rattle.particles.specs.Walk.{counted}
@@ -25,56 +27,56 @@ use Rattle.bath_file.proofs.Checks.{Valid, valid, passes, refuses}
 
 -- ---- the header
 
-module _ (bytes : List ℕ) where
+module _ (caller : Caller) (bytes : List ℕ) where
   abbrev first : List ℕ
   first = take headerLength bytes
 
   abbrev afterValues : Answer Header
   afterValues = refuseIf (not (spareIsZero first)) 16 0 (result (headerIn first))
 
-  pub too-short : length bytes < headerLength → headerAnswer bytes ≡ refused 1 0
+  pub too-short : length bytes < headerLength → headerAnswer caller bytes ≡ refused 1 0
   unfolding headerAnswer
   too-short h = rw (lt-ltb (length bytes) headerLength h)
 
-  long-enough : headerLength ≤ length bytes → headerAnswer bytes ≡ checkedHeader (headerIn first) afterValues
+  long-enough : headerLength ≤ length bytes → headerAnswer caller bytes ≡ checkedHeader caller (headerIn first) afterValues
   unfolding headerAnswer
   long-enough h = rw (le-ltb (length bytes) headerLength h)
 
   -- the code checks the values by themselves
   abbrev Checked : Answer Header → Type 0
-  Checked a = checkedHeader (headerIn first) (result (headerIn first)) ≡ a
+  Checked a = checkedHeader caller (headerIn first) (result (headerIn first)) ≡ a
 
-  pub header-refused : headerLength ≤ length bytes → {n k : ℕ} → Checked (refused n k) → headerAnswer bytes ≡ refused n k
-  header-refused h e = long-enough h ∙ refuses (headerIn first) (headerIn first) afterValues e
+  pub header-refused : headerLength ≤ length bytes → {n k : ℕ} → Checked (refused n k) → headerAnswer caller bytes ≡ refused n k
+  header-refused h e = long-enough h ∙ refuses caller (headerIn first) (headerIn first) afterValues e
 
-  spare-decides : headerLength ≤ length bytes → {g : Header} → Checked (result g) → headerAnswer bytes ≡ afterValues
-  spare-decides h e = long-enough h ∙ passes (headerIn first) afterValues (valid (headerIn first) (result (headerIn first)) e .0)
+  spare-decides : headerLength ≤ length bytes → {g : Header} → Checked (result g) → headerAnswer caller bytes ≡ afterValues
+  spare-decides h e = long-enough h ∙ passes caller (headerIn first) afterValues (valid caller (headerIn first) (result (headerIn first)) e .0)
 
-  pub header-spare : headerLength ≤ length bytes → {g : Header} → Checked (result g) → spareIsZero first ≡ false → headerAnswer bytes ≡ refused 16 0
+  pub header-spare : headerLength ≤ length bytes → {g : Header} → Checked (result g) → spareIsZero first ≡ false → headerAnswer caller bytes ≡ refused 16 0
   header-spare h e s = spare-decides h e ∙ ap (λ b. refuseIf (not b) 16 0 (result (headerIn first))) s
 
-  pub header-accepted : headerLength ≤ length bytes → {g : Header} → Checked (result g) → spareIsZero first ≡ true → headerAnswer bytes ≡ result g
+  pub header-accepted : headerLength ≤ length bytes → {g : Header} → Checked (result g) → spareIsZero first ≡ true → headerAnswer caller bytes ≡ result g
   header-accepted h e s =
       spare-decides h e
       ∙ ap (λ b. refuseIf (not b) 16 0 (result (headerIn first))) s
-      ∙ valid (headerIn first) (result (headerIn first)) e .1
+      ∙ valid caller (headerIn first) (result (headerIn first)) e .1
 
   pub record HeaderHeld (h : Header) : Type 0 where
     pub long : headerLength ≤ length bytes
     pub holds : headerIn first ≡ h
-    pub valid : Valid h
+    pub valid : Valid caller h
     pub spare : spareIsZero first ≡ true
 
-  pub header-held : {h : Header} → headerAnswer bytes ≡ result h → HeaderHeld h
+  pub header-held : {h : Header} → headerAnswer caller bytes ≡ result h → HeaderHeld h
   unfolding headerAnswer
   header-held e =
       let l = passed (ltb (length bytes) headerLength) 1 0 _ e in
-      let v = valid (headerIn first) afterValues (l .1) in
+      let v = valid caller (headerIn first) afterValues (l .1) in
       let s = passed (not (spareIsZero first)) 16 0 _ (v .1) in
       record {
         long = ltb-false (length bytes) headerLength (l .0);
         holds = same-result (s .1);
-        valid = subst Valid (same-result (s .1)) (v .0);
+        valid = subst (Valid caller) (same-result (s .1)) (v .0);
         spare = not-false (spareIsZero first) (s .0);
       }
 
@@ -127,18 +129,18 @@ module _ (h : Header) (bytes : List ℕ) where
   unfolding writeAnswer
   long n = wrong-length (length bytes) headerLength _ n
 
-  judged : length bytes ≡ headerLength → writeAnswer h bytes ≡ checkedHeader h (result tt)
+  judged : length bytes ≡ headerLength → writeAnswer h bytes ≡ checkedHeader Bench h (result tt)
   unfolding writeAnswer
   judged n = right-length (length bytes) headerLength _ n
 
-  pub write-refused : length bytes ≡ headerLength → {n k : ℕ} → checkedHeader h (result h) ≡ refused n k → writeAnswer h bytes ≡ refused n k
-  write-refused n e = judged n ∙ refuses h h (result tt) e
+  pub write-refused : length bytes ≡ headerLength → {n k : ℕ} → checkedHeader Bench h (result h) ≡ refused n k → writeAnswer h bytes ≡ refused n k
+  write-refused n e = judged n ∙ refuses Bench h h (result tt) e
 
-  pub write-accepted : length bytes ≡ headerLength → Valid h → writeAnswer h bytes ≡ result tt
-  write-accepted n v = judged n ∙ passes h (result tt) v
+  pub write-accepted : length bytes ≡ headerLength → Valid Bench h → writeAnswer h bytes ≡ result tt
+  write-accepted n v = judged n ∙ passes Bench h (result tt) v
 
-  pub allowed : writeAnswer h bytes ≡ result tt → (length bytes ≡ headerLength) × Valid h
+  pub allowed : writeAnswer h bytes ≡ result tt → (length bytes ≡ headerLength) × Valid Bench h
   unfolding writeAnswer
   allowed e =
       let l = length-passed (length bytes) headerLength _ e in
-      (l .0, valid h (result tt) (l .1) .0)
+      (l .0, valid Bench h (result tt) (l .1) .0)

@@ -21,13 +21,15 @@ use Rattle.bits.proofs.Bytes.{small-part}
 use Rattle.bits.proofs.Layouts.{CanHold, Proper, fieldOf, filled-length, packed-held, held-packed}
 use Rattle.bits.proofs.Parts.{bytes-below}
 use Rattle.bits.proofs.TwosComplement.{mag-le}
+use Rattle.limits.specs.declared.Caller.{Caller}
+use Rattle.limits.specs.declared.Caller.the-variants.{Bench}
 use Rattle.limits.proofs.Within.{both}
 use Rattle.apic.specs.Limits.{SizeLimits}
 use Rattle.particles.proofs.Checks.{size-limits}
 use Rattle.bath_file.specs.declared.Header.{Header}
 use Rattle.bath_file.specs.Layout.{Name, nx, ny, gx, gy, count, steps, spareAfterSteps, kind, width, drag, spareAfterDrag, layout, headerLength, held}
 use Rattle.bath_file.specs.File.{headerIn, valueIn, headerOf, spareIsZero, headerAnswer, writeAnswer, written}
-use Rattle.bath_file.proofs.Checks.{Valid, EdgeLimits, edge-limits, passes}
+use Rattle.bath_file.proofs.Checks.{Valid, bench-valid, EdgeLimits, edge-limits, passes}
 use Rattle.bath_file.proofs.Answers.{header-held, header-accepted, after, write-accepted, allowed}
 
 pub header-length : (h : Header) → length (headerOf h) ≡ headerLength
@@ -77,10 +79,10 @@ header-of-held bytes b none = packed-held proper bytes (valueIn (headerIn bytes)
     same drag = refl
     same spareAfterDrag = ap pos (sym (zero .1))
 
-module _ (bytes : List ℕ) (h : Header) (small : (i : ℕ) → getD bytes i 0 < 256) (found : headerAnswer bytes ≡ result h) where
+module _ (c : Caller) (bytes : List ℕ) (h : Header) (small : (i : ℕ) → getD bytes i 0 < 256) (found : headerAnswer c bytes ≡ result h) where
   pub header-of-read : headerOf h ≡ take headerLength bytes
   header-of-read =
-      let f = header-held bytes found in
+      let f = header-held c bytes found in
       let first = take headerLength bytes in
       let below = bytes-below first (small-part bytes headerLength 0 small) in
       ap headerOf (sym (f .holds))
@@ -88,14 +90,14 @@ module _ (bytes : List ℕ) (h : Header) (small : (i : ℕ) → getD bytes i 0 <
 
   pub read-write : (buffer : List ℕ) → length buffer ≡ headerLength → (writeAnswer h buffer ≡ result tt) × (written h buffer ≡ take headerLength bytes)
   read-write buffer e =
-      let done = write-accepted h buffer e (header-held bytes found .valid) in
+      let done = write-accepted h buffer e (bench-valid c h (header-held c bytes found .valid)) in
       (done, after h buffer done ∙ header-of-read)
 
 -- ---- write, then read
 
-module _ (h : Header) (valid : Valid h) where
+module _ (h : Header) (valid : Valid Bench h) where
   sizes : SizeLimits (h .nx) (h .ny)
-  sizes = size-limits (h .nx) (h .ny) (valid .size)
+  sizes = size-limits Bench (h .nx) (h .ny) (valid .size)
 
   edges : EdgeLimits (h .kind) (h .width)
   edges = edge-limits (h .kind) (h .width) (valid .edge)
@@ -133,16 +135,16 @@ module _ (h : Header) (valid : Valid h) where
         drag = natAbs (again drag i);
       }
 
-  pub read-of-header : (rest : List ℕ) → headerAnswer (headerOf h ++ rest) ≡ result h
+  pub read-of-header : (rest : List ℕ) → headerAnswer Bench (headerOf h ++ rest) ≡ result h
   read-of-header rest =
       let bytes = headerOf h ++ rest in
       let first : take headerLength bytes ≡ headerOf h = take-at (headerOf h) rest headerLength (header-length h) in
       let reads : headerIn (take headerLength bytes) ≡ h = ap headerIn first ∙ header-of-header in
-      header-accepted bytes
+      header-accepted Bench bytes
       (omega (arith, length-append (headerOf h) rest, header-length h))
-      (passes (headerIn (take headerLength bytes)) _ (subst Valid (sym reads) valid) ∙ ap result reads)
+      (passes Bench (headerIn (take headerLength bytes)) _ (subst (Valid Bench) (sym reads) valid) ∙ ap result reads)
       (ap spareIsZero first ∙ λ i. eqb (natAbs (again spareAfterSteps i)) 0 && eqb (natAbs (again spareAfterDrag i)) 0)
 
-pub write-read : (h : Header) (buffer rest : List ℕ) → writeAnswer h buffer ≡ result tt → headerAnswer (written h buffer ++ rest) ≡ result h
+pub write-read : (h : Header) (buffer rest : List ℕ) → writeAnswer h buffer ≡ result tt → headerAnswer Bench (written h buffer ++ rest) ≡ result h
 write-read h buffer rest done =
-    ap (λ l. headerAnswer (l ++ rest)) (after h buffer done) ∙ read-of-header h (allowed h buffer done .1) rest
+    ap (λ l. headerAnswer Bench (l ++ rest)) (after h buffer done) ∙ read-of-header h (allowed h buffer done .1) rest

@@ -1,5 +1,5 @@
--- Documents 01, "Read a file", and 02, Papers 1 and 6: its answer for any bytes; and writing a header: its answer, and the buffer
--- that it leaves.
+-- Documents 01, "Read a file", and 02, Papers 1, 6 and 9: its answer to a caller for any bytes; and writing a header: its answer, and
+-- the buffer that it leaves.
 -- Assumes nothing.
 use Prim.Native.Nat.{ℕ, _+_, _*_, _≤_}
 use mathlib.Core.Bool.{Bool, not, _&&_}
@@ -8,7 +8,9 @@ use lib.Dec.{ltb, eqb}
 use lib.IntN.{ℤ, pos, natAbs}
 use lib.ListN.{length, take}
 use Rattle.refusal.specs.Refused.{Answer, result, refusedBy, refuseIf, andThen, keptUnless}
-use Rattle.limits.specs.Limits.{mostRecords, mostSteps, mostDrag, validGravity}
+use Rattle.limits.specs.declared.Caller.{Caller}
+use Rattle.limits.specs.declared.Caller.the-variants.{Bench}
+use Rattle.limits.specs.Limits.{mostSteps, mostDrag, mostSideOf, mostRecordsOf, validGravity}
 use Rattle.particle.specs.Layout.{recordLength}
 use Rattle.particles.specs.Set.{setLength, validSize, setOf}
 use Rattle.settings.specs.Settings.{edgeOf, validEdge}
@@ -51,17 +53,17 @@ valueIn h spareAfterDrag = pos 0
 unfoldable pub headerOf : Header → List ℕ
 headerOf h = packed (valueIn h)
 
--- ---- the limits of "Records" and of Paper 1
+-- ---- the limits of "Records", and of Papers 1 and 9
 
--- 2 Nx or Ny out of range; 10 gravity out of range; 18 kind 3 or a width that its kind doesn't have; 19 drag above 255; 3 too many
--- records; 17 too many steps; and then the rest of a list
-unfoldable pub checkedHeader : {A : Type 0} → Header → Answer A → Answer A
-checkedHeader h rest =
-    refuseIf (not (validSize (h .nx) (h .ny))) 2 0
+-- 2 Nx or Ny out of the caller's range; 10 gravity out of range; 18 kind 3 or a width that its kind doesn't have; 19 drag above 255;
+-- 3 more records than the caller's; 17 too many steps; and then the rest of a list
+unfoldable pub checkedHeader : {A : Type 0} → Caller → Header → Answer A → Answer A
+checkedHeader caller h rest =
+    refuseIf (not (validSize (mostSideOf caller) (h .nx) (h .ny))) 2 0
     (refuseIf (not (validGravity (h .gx) && validGravity (h .gy))) 10 0
     (refuseIf (not (validEdge (edgeOf (h .kind) (h .width)))) 18 0
     (refuseIf (ltb mostDrag (h .drag)) 19 0
-    (refuseIf (ltb mostRecords (h .count)) 3 0
+    (refuseIf (ltb (mostRecordsOf caller) (h .count)) 3 0
     (refuseIf (ltb mostSteps (h .steps)) 17 0
     rest)))))
 
@@ -72,11 +74,11 @@ abbrev pub spareIsZero : List ℕ → Bool
 spareIsZero bytes = eqb (natAbs (held spareAfterSteps bytes)) 0 && eqb (natAbs (held spareAfterDrag bytes)) 0
 
 -- 1 shorter than a header; 2; 10; 18; 3; 17; 16 spare bits not zero
-unfoldable pub headerAnswer : List ℕ → Answer Header
-headerAnswer bytes =
+unfoldable pub headerAnswer : Caller → List ℕ → Answer Header
+headerAnswer caller bytes =
     let first = take headerLength bytes in
     refuseIf (ltb (length bytes) headerLength) 1 0
-    (checkedHeader (headerIn first)
+    (checkedHeader caller (headerIn first)
     (refuseIf (not (spareIsZero first)) 16 0
     (result (headerIn first))))
 
@@ -95,8 +97,8 @@ abbrev pub roomForFile : ℕ
 roomForFile = headerLength + setLength + 1
 
 -- the whole list; the result is the header's values
-abbrev pub fileAnswer : List ℕ → Answer Header
-fileAnswer bytes = andThen (headerAnswer bytes) (λ h. recordsAnswer h bytes)
+abbrev pub fileAnswer : Caller → List ℕ → Answer Header
+fileAnswer caller bytes = andThen (headerAnswer caller bytes) (λ h. recordsAnswer h bytes)
 
 abbrev pub toldRead : FileRead → Answer Header
 toldRead (read.Accepted h) = result h
@@ -104,9 +106,9 @@ toldRead (read.Refused e) = refusedBy e
 
 -- ---- writing a header
 
--- 1 wrong length; 2; 10; 18; 19; 3; 17
+-- 1 wrong length; 2; 10; 18; 19; 3; 17: by the bench's limits
 unfoldable pub writeAnswer : Header → List ℕ → Answer Unit
-writeAnswer h bytes = refuseIf (not (eqb (length bytes) headerLength)) 1 0 (checkedHeader h (result tt))
+writeAnswer h bytes = refuseIf (not (eqb (length bytes) headerLength)) 1 0 (checkedHeader Bench h (result tt))
 
 -- the buffer afterwards: the header where the answer is a result, and else what it was
 unfoldable pub written : Header → List ℕ → List ℕ

@@ -6,7 +6,7 @@ use mathlib.Core.List.{List, [], _∷_}
 use mathlib.Core.Option.{Option, none, some}
 use Prim.Native.Nat.{ℕ, zero, suc, _+_, _*_, _<_, _≤_}
 use native.Mathlib.Omega.{arith}
-use native.Mathlib.Nat.{mul-le-mul}
+use native.Mathlib.Nat.{mul-le-mul, le-trans}
 use lib.Dec.{eqb, leb, ltb}
 use lib.IntN.{ℤ, pos, negsuc}
 use lib.Signed.{leZ}
@@ -14,12 +14,15 @@ use lib.ListN.{length, getD, take, length-map}
 use borrow.Author.Tests.{not-false}
 use Rattle.refusal.specs.Refused.{Answer, result, refused, refuseIf, andThen, forEach, toldOf}
 use Rattle.refusal.proofs.Answers.{went-on, same-result}
-use Rattle.limits.specs.Limits.{mostSide, mostRecords, mostTotalMass, mostNodeMass, mostNodeVelocity, mostGravity, mostDrag, mostSteps, validMass, validGravity}
+use Rattle.limits.specs.declared.Caller.{Caller}
+use Rattle.limits.specs.declared.Caller.the-variants.{Bench}
+use Rattle.limits.specs.Limits.{mostSide, mostRecords, mostSideOf, mostRecordsOf, mostTotalMass, mostNodeMass, mostNodeVelocity, mostGravity, mostDrag, mostSteps, validMass, validGravity}
+use Rattle.limits.proofs.Callers.{records-most}
 use Rattle.spline.specs.Spline.{axisWeight, D}
 use Rattle.particle.specs.declared.Particle.{Particle}
 use Rattle.particle.specs.Layout.{recordLength}
 use Rattle.particle.specs.Record.{particleOf, readAnswer, readParticle, lowestVelocity, lowestAffine, writeAnswer, writeParticle, validVelocities, validAffines, validPositions}
-use Rattle.particles.specs.Set.{onGrid, checkedParticle, setFrom, setOf, recordAt, recordCount, setAnswer, checkAnswer, validSize, validLength, recordsOf}
+use Rattle.particles.specs.Set.{onGrid, checkedParticle, setFrom, setOf, recordAt, recordCount, tooMany, setAnswer, checkAnswer, validSize, validLength, recordsOf}
 use Rattle.totals.specs.Totals.{totalsAnswer}
 use Rattle.particles.proofs.Checks.{size-limits, length-limits}
 use Rattle.particles.proofs.Accepted.{accepted-limits}
@@ -113,19 +116,21 @@ module _ (nx ny start : ℕ) (bytes : List ℕ) where
       (λ q _.
       next (setFrom nx ny start bytes left (suc k) (suc (q .identifier)) (mass + q .mass)) _ (walk left (suc k) (suc (q .identifier)) (mass + q .mass) (omega arith)) (λ _ _. accepts)))
 
-module _ (nx ny : ℕ) (bytes : List ℕ) where
-  pub set : Placed (setAnswer nx ny bytes)
+module _ (caller : Caller) (nx ny : ℕ) (bytes : List ℕ) where
+  pub set : Placed (setAnswer caller nx ny bytes)
   set =
-      plain (not (validSize nx ny)) 2 _
+      plain (not (validSize (mostSideOf caller) nx ny)) 2 _
       (λ _.
       plain (not (validLength (length bytes))) 1 _
-      (λ e. walk nx ny 0 bytes (recordCount bytes) 0 0 0 (few (length-limits (length bytes) (not-false (validLength (length bytes)) e) .count))))
+      (λ e.
+      plain (tooMany caller (length bytes)) 3 _
+      (λ _. walk nx ny 0 bytes (recordCount bytes) 0 0 0 (few (length-limits (length bytes) (not-false (validLength (length bytes)) e) .count)))))
 
-  pub counted : Placed (checkAnswer nx ny bytes)
-  counted = next (setAnswer nx ny bytes) _ set (λ _ _. accepts)
+  pub counted : Placed (checkAnswer caller nx ny bytes)
+  counted = next (setAnswer caller nx ny bytes) _ set (λ _ _. accepts)
 
-  pub totalled : Placed (totalsAnswer nx ny bytes)
-  totalled = next (setAnswer nx ny bytes) _ set (λ _ _. accepts)
+  pub totalled : Placed (totalsAnswer caller nx ny bytes)
+  totalled = next (setAnswer caller nx ny bytes) _ set (λ _ _. accepts)
 
 -- ---- grids
 
@@ -151,45 +156,45 @@ forces s rest h =
     plain (not (bothWithin mostGravity (s .gx) (s .gy))) 10 _
     (λ _. plain (not (validEdge (s .edge))) 18 _ (λ _. plain (ltb mostDrag (s .drag)) 19 _ (λ _. h)))
 
-begin : (s : Settings) (buffers : Buffers) (steps bytes : ℕ) → Placed (beginAnswer s buffers steps bytes)
+begin : (caller : Caller) (s : Settings) (buffers : Buffers) (steps bytes : ℕ) → Placed (beginAnswer caller s buffers steps bytes)
 unfolding beginAnswer
-begin s buffers steps bytes =
-    plain (not (validSize (s .nx) (s .ny))) 2 _
+begin caller s buffers steps bytes =
+    plain (not (validSize (mostSideOf caller) (s .nx) (s .ny))) 2 _
     (λ _.
     plain (not (validLength bytes)) 1 _
     (λ _.
     plain (not (areLong (s .nx * s .ny) buffers)) 1 _
-    (λ _. forces s _ (plain (ltb mostSteps steps) 17 _ (λ _. accepts)))))
+    (λ _. plain (tooMany caller bytes) 3 _ (λ _. forces s _ (plain (ltb mostSteps steps) 17 _ (λ _. accepts))))))
 
-module _ (s : Settings) (buffers : Buffers) (steps : ℕ) (records : List ℕ) where
-  pub entry : Placed (entryAnswer s buffers steps records)
+module _ (caller : Caller) (s : Settings) (buffers : Buffers) (steps : ℕ) (records : List ℕ) where
+  pub entry : Placed (entryAnswer caller s buffers steps records)
   unfolding entryAnswer
   entry =
-      next (beginAnswer s buffers steps (length records)) _ (begin s buffers steps (length records))
+      next (beginAnswer caller s buffers steps (length records)) _ (begin caller s buffers steps (length records))
       (λ _ e.
       walk (s .nx) (s .ny) 0 records (recordCount records) 0 0 0
-      (few (length-limits (length records) (passed-checks s buffers steps (length records) e .0 .whole) .count)))
+      (few (length-limits (length records) (passed-checks caller s buffers steps (length records) e .0 .whole) .count)))
 
-  few-entered : {ps : List Particle} → entryAnswer s buffers steps records ≡ result ps → SetLimits (s .nx) (s .ny) ps
-  few-entered e = accepted-limits (s .nx) (s .ny) records (accepted s buffers steps records e .set)
+  few-entered : {ps : List Particle} → entryAnswer caller s buffers steps records ≡ result ps → SetLimits (s .nx) (s .ny) ps
+  few-entered e = accepted-limits (s .nx) (s .ny) records (accepted caller s buffers steps records e .set)
 
 -- ---- update
 
-module _ (s : Settings) (mass : List ℕ) (px py : List ℤ) where
+module _ (caller : Caller) (s : Settings) (mass : List ℕ) (px py : List ℤ) where
   abbrev three : Buffers
   three = Three (length mass) (length px) (length py)
 
-  pub update : Placed (updateAnswer s mass px py)
+  pub update : Placed (updateAnswer caller s mass px py)
   unfolding updateAnswer checkNodes
   update =
-      next (beginAnswer s three 0 0) _ (begin s three 0 0)
+      next (beginAnswer caller s three 0 0) _ (begin caller s three 0 0)
       (λ _ e.
       each (checkNodeAt D (s .gx) (s .gy) mass px py) 0 (s .nx * s .ny) (λ i h. node D (s .gx) (s .gy) i (getD mass i 0) (getD px i (pos 0)) (getD py i (pos 0)) h)
-      (nodes-few (size-limits (s .nx) (s .ny) (passed-checks s three 0 0 e .0 .size))))
+      (nodes-few (size-limits caller (s .nx) (s .ny) (passed-checks caller s three 0 0 e .0 .size))))
 
 -- ---- transfers
 
-module _ (nx ny : ℕ) (records : List ℕ) (g : Grids) where
+module _ (caller : Caller) (nx ny : ℕ) (records : List ℕ) (g : Grids) where
   abbrev lent : Buffers
   lent = Three (length (g .mass)) (length (g .x)) (length (g .y))
 
@@ -199,13 +204,13 @@ module _ (nx ny : ℕ) (records : List ℕ) (g : Grids) where
       check (not (adding.validPresent (getD (g .mass) k 0) (getD (g .x) k (pos 0)) (getD (g .y) k (pos 0)))) 20 k _ h
       (λ _. check (ltb mostNodeMass (getD (g .mass) k 0 + getD gain k 0)) 21 k _ h (λ _. accepts))
 
-  pub added : Placed (adding.addingAnswer nx ny records g)
+  pub added : Placed (adding.addingAnswer caller nx ny records g)
   unfolding adding.addingAnswer adding.addedGrids adding.checkNodes
   added =
-      next (entryAnswer (still nx ny) lent 0 records) _ (entry (still nx ny) lent 0 records)
+      next (entryAnswer caller (still nx ny) lent 0 records) _ (entry caller (still nx ny) lent 0 records)
       (λ ps e.
       next (adding.checkNodes (nx * ny) g (scatterOf nx ny ps .mass)) _
-      (each (adding.checkNodeAt g (scatterOf nx ny ps .mass)) 0 (nx * ny) (present (scatterOf nx ny ps .mass)) (nodes-few (few-entered (still nx ny) lent 0 records e .sizes)))
+      (each (adding.checkNodeAt g (scatterOf nx ny ps .mass)) 0 (nx * ny) (present (scatterOf nx ny ps .mass)) (nodes-few (few-entered caller (still nx ny) lent 0 records e .sizes)))
       (λ _ _. accepts))
 
 moves : {A : Type 0} (nx ny : ℕ) (move : Particle → Particle) (k : ℕ) (ps : List Particle) (rest : Answer A) → k + length ps < 4294967296 → Placed rest → Placed (moveChecks nx ny move k ps rest)
@@ -220,7 +225,7 @@ moves nx ny move k (p ∷ ps) rest h r =
     check (offGrid nx ny (newCoordinate alongX p (q .vx)) (newCoordinate alongY p (q .vy))) 15 k _ (omega arith)
     (λ _. moves nx ny move (suc k) ps rest (omega arith) r)))
 
-module _ (nx ny : ℕ) (records : List ℕ) (ux uy : List ℤ) where
+module _ (caller : Caller) (nx ny : ℕ) (records : List ℕ) (ux uy : List ℤ) where
   abbrev buffers : Buffers
   buffers = Two (length ux) (length uy)
 
@@ -229,22 +234,22 @@ module _ (nx ny : ℕ) (records : List ℕ) (ux uy : List ℤ) where
   velocities v =
       each (velocityCheck ux uy) 0 (nx * ny) (λ i h. check (not (bothWithin mostNodeVelocity (getD ux i (pos 0)) (getD uy i (pos 0)))) 12 i _ h (λ _. accepts)) (nodes-few v)
 
-  ready : Placed (checkedSet nx ny records ux uy)
+  ready : Placed (checkedSet caller nx ny records ux uy)
   unfolding checkedSet
   ready =
-      next (entryAnswer (still nx ny) buffers 0 records) _ (entry (still nx ny) buffers 0 records)
-      (λ ps e. next (velocityChecks (nx * ny) ux uy) _ (velocities (few-entered (still nx ny) buffers 0 records e .sizes)) (λ _ _. accepts))
+      next (entryAnswer caller (still nx ny) buffers 0 records) _ (entry caller (still nx ny) buffers 0 records)
+      (λ ps e. next (velocityChecks (nx * ny) ux uy) _ (velocities (few-entered caller (still nx ny) buffers 0 records e .sizes)) (λ _ _. accepts))
 
-  ready-few : {ps : List Particle} → checkedSet nx ny records ux uy ≡ result ps → length ps ≤ mostRecords
+  ready-few : {ps : List Particle} → checkedSet caller nx ny records ux uy ≡ result ps → length ps ≤ mostRecords
   unfolding checkedSet
   ready-few e =
-      let s = went-on (entryAnswer (still nx ny) buffers 0 records) (λ ps. andThen (velocityChecks (nx * ny) ux uy) (λ _. result ps)) e in
+      let s = went-on (entryAnswer caller (still nx ny) buffers 0 records) (λ ps. andThen (velocityChecks (nx * ny) ux uy) (λ _. result ps)) e in
       let t = went-on (velocityChecks (nx * ny) ux uy) (λ _. result (s .0)) (s .2) in
-      subst (λ l. length l ≤ mostRecords) (same-result (t .2)) (few-entered (still nx ny) buffers 0 records (s .1) .count)
+      subst (λ l. length l ≤ mostRecords) (same-result (t .2)) (few-entered caller (still nx ny) buffers 0 records (s .1) .count)
 
-  pub gather : Placed (gatherAnswer nx ny records ux uy)
+  pub gather : Placed (gatherAnswer caller nx ny records ux uy)
   gather =
-      next (checkedSet nx ny records ux uy) _ ready
+      next (checkedSet caller nx ny records ux uy) _ ready
       (λ ps e. moves nx ny (gathered axisWeight nx ny ux uy) 0 ps _ (few (ready-few e)) accepts)
 
 -- what is told of an answer has its place
@@ -253,16 +258,16 @@ told a h = next a _ h (λ _ _. accepts)
 
 -- ---- steps and runs
 
-module _ (s : Settings) (records : List ℕ) (grids : Grids) where
-  step-entry : Placed (stepEntry s records grids)
+module _ (caller : Caller) (s : Settings) (records : List ℕ) (grids : Grids) where
+  step-entry : Placed (stepEntry caller s records grids)
   unfolding stepEntry
-  step-entry = entry s (buffersOf grids) 0 records
+  step-entry = entry caller s (buffersOf grids) 0 records
 
-  run-entry : (steps : ℕ) → Placed (runEntry s steps records grids)
+  run-entry : (steps : ℕ) → Placed (runEntry caller s steps records grids)
   unfolding runEntry
-  run-entry steps = entry s (buffersOf grids) steps records
+  run-entry steps = entry caller s (buffersOf grids) steps records
 
-module _ (s : Settings) where
+module _ (caller : Caller) (s : Settings) where
   one-step : (ps : List Particle) → length ps ≤ mostRecords → Placed (stepOf s ps)
   unfolding stepBy
   one-step ps h = moves (s .nx) (s .ny) (moveBy axisWeight D s ps) 0 ps _ (few h) accepts
@@ -271,16 +276,16 @@ module _ (s : Settings) where
   unfolding steppedBy
   same-count ps h e = subst (λ l. length l ≤ mostRecords) (step-result axisWeight D s ps e .1) (rw length-map h)
 
-  pub step : (records : List ℕ) (grids : Grids) → Placed (stepAfter s records grids .answer)
+  pub step : (records : List ℕ) (grids : Grids) → Placed (stepAfter caller s records grids .answer)
   unfolding stepAfter stepFrom
-  step records grids = go (stepEntry s records grids) refl (step-entry s records grids)
+  step records grids = go (stepEntry caller s records grids) refl (step-entry caller s records grids)
     where
       after : (ps : List Particle) (a : Answer (List Particle)) → stepOf s ps ≡ a → Placed a → Placed (stepFrom s records ps .answer)
       after ps (result qs) e h = rw e accepts
       after ps (refused n k) e (refuses h) = rw e (refuses h)
 
-      go : (a : Answer (List Particle)) → stepEntry s records grids ≡ a → Placed a → Placed (stepAfter s records grids .answer)
-      go (result ps) e h = rw e (after ps (stepOf s ps) refl (one-step ps (ready-step s records grids e .limits .count)))
+      go : (a : Answer (List Particle)) → stepEntry caller s records grids ≡ a → Placed a → Placed (stepAfter caller s records grids .answer)
+      go (result ps) e h = rw e (after ps (stepOf s ps) refl (one-step ps (ready-step caller s records grids e .limits .count)))
       go (refused n k) e (refuses h) = rw e (refuses h)
 
   run-from : (n : ℕ) (records : List ℕ) (ps : List Particle) (grids : Grids) → length ps ≤ mostRecords → Placed (runFrom s n records ps grids .answer .stop)
@@ -292,35 +297,35 @@ module _ (s : Settings) where
       go further (result qs) e p = rw e (further qs (same-count ps h e))
       go further (refused m k) e (refuses p) = rw e (refuses p)
 
-  pub run : (steps : ℕ) (records : List ℕ) (grids : Grids) → Placed (runAfter s steps records grids .answer .stop)
+  pub run : (steps : ℕ) (records : List ℕ) (grids : Grids) → Placed (runAfter caller s steps records grids .answer .stop)
   unfolding runAfter
-  run steps records grids = go (runEntry s steps records grids) refl (run-entry s records grids steps)
+  run steps records grids = go (runEntry caller s steps records grids) refl (run-entry caller s records grids steps)
     where
-      go : (a : Answer (List Particle)) → runEntry s steps records grids ≡ a → Placed a → Placed (runAfter s steps records grids .answer .stop)
-      go (result ps) e h = rw e (run-from steps records ps grids (ready-run s records steps grids e .limits .count))
+      go : (a : Answer (List Particle)) → runEntry caller s steps records grids ≡ a → Placed a → Placed (runAfter caller s steps records grids .answer .stop)
+      go (result ps) e h = rw e (run-from steps records ps grids (ready-run caller s records steps grids e .limits .count))
       go (refused n k) e (refuses h) = rw e (refuses h)
 
 -- ---- files
 
-header : {A : Type 0} (h : Header) (rest : Answer A) → Placed rest → Placed (file.checkedHeader h rest)
+header : {A : Type 0} (caller : Caller) (h : Header) (rest : Answer A) → Placed rest → Placed (file.checkedHeader caller h rest)
 unfolding file.checkedHeader
-header h rest p =
-    plain (not (validSize (h .nx) (h .ny))) 2 _
+header caller h rest p =
+    plain (not (validSize (mostSideOf caller) (h .nx) (h .ny))) 2 _
     (λ _.
     plain (not (validGravity (h .gx) && validGravity (h .gy))) 10 _
     (λ _.
     plain (not (validEdge (edgeOf (h .kind) (h .width)))) 18 _
     (λ _.
     plain (ltb mostDrag (h .drag)) 19 _
-    (λ _. plain (ltb mostRecords (h .count)) 3 _ (λ _. plain (ltb mostSteps (h .steps)) 17 _ (λ _. p))))))
+    (λ _. plain (ltb (mostRecordsOf caller) (h .count)) 3 _ (λ _. plain (ltb mostSteps (h .steps)) 17 _ (λ _. p))))))
 
-module _ (bytes : List ℕ) where
-  header-read : Placed (file.headerAnswer bytes)
+module _ (caller : Caller) (bytes : List ℕ) where
+  header-read : Placed (file.headerAnswer caller bytes)
   unfolding file.headerAnswer
   header-read =
       plain (ltb (length bytes) headerLength) 1 _
       (λ _.
-      header (file.headerIn (take headerLength bytes)) _
+      header caller (file.headerIn (take headerLength bytes)) _
       (plain (not (file.spareIsZero (take headerLength bytes))) 16 _ (λ _. accepts)))
 
   records-read : (h : Header) → h .count ≤ mostRecords → Placed (file.recordsAnswer h bytes)
@@ -329,12 +334,12 @@ module _ (bytes : List ℕ) where
       plain (not (eqb (length bytes) (headerLength + recordLength * h .count))) 1 _
       (λ _. next (setOf (h .nx) (h .ny) headerLength bytes (h .count)) _ (walk (h .nx) (h .ny) headerLength bytes (h .count) 0 0 0 (few c)) (λ _ _. accepts))
 
-  pub file-read : Placed (file.fileAnswer bytes)
-  file-read = next (file.headerAnswer bytes) _ header-read (λ h e. records-read h (header-held bytes e .valid .count-to))
+  pub file-read : Placed (file.fileAnswer caller bytes)
+  file-read = next (file.headerAnswer caller bytes) _ header-read (λ h e. records-read h (le-trans (header-held caller bytes e .valid .count-to) (records-most caller)))
 
 pub header-written : (h : Header) (bytes : List ℕ) → Placed (file.writeAnswer h bytes)
 unfolding file.writeAnswer
-header-written h bytes = plain (not (eqb (length bytes) headerLength)) 1 _ (λ _. header h _ accepts)
+header-written h bytes = plain (not (eqb (length bytes) headerLength)) 1 _ (λ _. header Bench h _ accepts)
 
 -- ---- stores
 
@@ -344,11 +349,11 @@ module _ {A : Type 0} (valid : Bool) (name : List ℕ) (rest : Answer A) where
   called h = plain (not valid) 1 _ (λ _. plain (not (validName name)) 22 rest (λ _. h))
 
 module _ (bytes name : List ℕ) where
-  pub kept : (bath : List ℕ) → Placed (store.keepAnswer bytes name bath)
+  pub kept : (caller : Caller) (bath : List ℕ) → Placed (store.keepAnswer caller bytes name bath)
   unfolding store.keepAnswer
-  kept bath =
+  kept caller bath =
       called (validStore bytes) name _
-      (next (file.fileAnswer bath) _ (file-read bath) (λ _ _. plain (not (ltb (store.placeFor bytes name) placeCount)) 24 _ (λ _. accepts)))
+      (next (file.fileAnswer caller bath) _ (file-read caller bath) (λ _ _. plain (not (ltb (store.placeFor bytes name) placeCount)) 24 _ (λ _. accepts)))
 
   under : (found : Option (List ℕ)) → Placed (store.heldAnswer found)
   under none = refuses nowhere

@@ -3,6 +3,7 @@ use mathlib.Core.Path.{_≡_}
 use mathlib.Core.List.{List}
 use Prim.Native.Nat.{ℕ}
 use lib.IntN.{ℤ}
+use Rattle.limits.specs.declared.Caller.{Caller}
 use Rattle.settings.specs.declared.Settings.{Settings}
 use Rattle.apic.specs.Step.{Grids}
 use Rattle.simulation.specs.Step.{Sees}
@@ -11,8 +12,8 @@ use Rattle.coding.specs.Coded.{coded}
 
 -- the records and grids are those of the run; the number is that of the refusal that stopped it, and the caller gets the number
 -- of completed steps, refused or not
-pub record RunTells (s : Settings) (steps : ℕ) (records : List ℕ) (grids : Grids) (number : ℕ) (records′ mass′ : List ℕ) (x′ y′ : List ℤ) (completed′ : ℕ) : Type 0 where
+pub record RunTells (caller : Caller) (s : Settings) (steps : ℕ) (records : List ℕ) (grids : Grids) (number : ℕ) (records′ mass′ : List ℕ) (x′ y′ : List ℤ) (completed′ : ℕ) : Type 0 where
   pub completion : Completion
-  pub sees : Sees (runAfter s steps records grids) completion records′ mass′ x′ y′
+  pub sees : Sees (runAfter caller s steps records grids) completion records′ mass′ x′ y′
   pub coded-is : number ≡ coded (completion .stop)
   pub completed-is : completed′ ≡ completion .completed

@@ -6,6 +6,7 @@ use mathlib.Core.Path.{_≡_, ap}
 use mathlib.Core.List.{List}
 use Prim.Native.Nat.{ℕ}
 use Rattle.refusal.specs.Refused.{Answer, result, refused, either}
+use Rattle.limits.specs.declared.Caller.{Caller}
 use Rattle.particle.specs.declared.Particle.{Particle}
 use Rattle.apic.specs.Step.{Grids}
 use Rattle.apic.specs.Limits.{SetLimits}
@@ -14,19 +15,19 @@ use Rattle.entry.proofs.Entry.{Accepted, accepted}
 use Rattle.simulation.specs.Step.{seen, buffersOf, stepEntry, stepFrom, stepAfter}
 use Rattle.simulation.proofs.Calls.{ready-step}
 
-pub step-from : (s : Settings) (records : List ℕ) (lent : Grids) {a : Answer (List Particle)} → stepEntry s records lent ≡ a → stepAfter s records lent ≡ either a (λ ps. stepFrom s records ps) (λ n k. seen (refused n k) records lent)
+pub step-from : (caller : Caller) (s : Settings) (records : List ℕ) (lent : Grids) {a : Answer (List Particle)} → stepEntry caller s records lent ≡ a → stepAfter caller s records lent ≡ either a (λ ps. stepFrom s records ps) (λ n k. seen (refused n k) records lent)
 unfolding stepAfter
-step-from s records lent e = ap (λ a. either a (λ ps. stepFrom s records ps) (λ n k. seen (refused n k) records lent)) e
+step-from caller s records lent e = ap (λ a. either a (λ ps. stepFrom s records ps) (λ n k. seen (refused n k) records lent)) e
 
-pub record Known (s : Settings) (records : List ℕ) (lent : Grids) (ps : List Particle) : Type 0 where
-  pub accepted : Accepted s (buffersOf lent) 0 records ps
+pub record Known (caller : Caller) (s : Settings) (records : List ℕ) (lent : Grids) (ps : List Particle) : Type 0 where
+  pub accepted : Accepted caller s (buffersOf lent) 0 records ps
   pub limits : SetLimits (s .nx) (s .ny) ps
 
-pub known : (s : Settings) (records : List ℕ) (lent : Grids) {ps : List Particle} → stepEntry s records lent ≡ result ps → Known s records lent ps
+pub known : (caller : Caller) (s : Settings) (records : List ℕ) (lent : Grids) {ps : List Particle} → stepEntry caller s records lent ≡ result ps → Known caller s records lent ps
 unfolding stepEntry
-known s records lent e =
-    let a = accepted s (buffersOf lent) 0 records e in
+known caller s records lent e =
+    let a = accepted caller s (buffersOf lent) 0 records e in
     record {
       accepted = a;
-      limits = ready-step s records lent e .limits;
+      limits = ready-step caller s records lent e .limits;
     }

@@ -21,7 +21,9 @@ use Rattle.spline.specs.Spline.{D}
 use Rattle.apic.specs.Step.{Axis, alongX, alongY, Grids}
 use Rattle.apic.proofs.Spline.{spline-lawful}
 use Rattle.particles.specs.Set.{recordsOf}
+use Rattle.particles.proofs.Checks.{entered}
 use Rattle.arith.specs.Lists.{each-at}
+use Rattle.limits.specs.declared.Caller.{Caller}
 use Rattle.gathering.specs.Gather.{gathered, NodeVelocities}
 use Rattle.update.specs.Update.{velocities, bothAxes, updateAnswer}
 use Rattle.settings.specs.Settings.{still}
@@ -53,32 +55,28 @@ velocities-pass {nx} {ny} {ux} {uy} a b =
 
 -- ---- the three calls
 
-module _ (s : Settings) (records : List ℕ) (lent : Grids) {ps : List Particle} (e : stepEntry s records lent ≡ result ps) where
-  abbrev k : Known s records lent ps
-  k = known s records lent e
+module _ (caller : Caller) (s : Settings) (records : List ℕ) (lent : Grids) {ps : List Particle} (e : stepEntry caller s records lent ≡ result ps) where
+  abbrev k : Known caller s records lent ps
+  k = known caller s records lent e
 
   -- the same set, with buffers of the grid's size, no gravity, open edges and no drag
-  entry-is : (buffers : Buffers) → areLong (s .nx * s .ny) buffers ≡ true → entryAnswer (still (s .nx) (s .ny)) buffers 0 records ≡ result ps
+  entry-is : (buffers : Buffers) → areLong (s .nx * s .ny) buffers ≡ true → entryAnswer caller (still (s .nx) (s .ny)) buffers 0 records ≡ result ps
   entry-is buffers h =
-      enters (still (s .nx) (s .ny)) buffers 0 records
-      (record {
-        set = k .accepted .set;
-        long = h;
-        forces = record { gravity-x = omega arith; gravity-y = omega arith; edge = refl; drag = omega arith };
-        few = omega arith;
-      })
+      enters caller (still (s .nx) (s .ny)) buffers 0 records (k .accepted .own) h
+      (record { gravity-x = omega arith; gravity-y = omega arith; edge = refl; drag = omega arith })
+      (omega arith)
 
   -- a step's velocities on an axis
   abbrev u : Axis → List ℤ
   u a = updatedVelocities s a ps
 
-  scatter-is : scatterAnswer (s .nx) (s .ny) records (length (lent .mass)) (length (lent .x)) (length (lent .y)) ≡ result ps
+  scatter-is : scatterAnswer caller (s .nx) (s .ny) records (length (lent .mass)) (length (lent .x)) (length (lent .y)) ≡ result ps
   scatter-is = entry-is _ (k .accepted .long)
 
-  update-is : updateAnswer s (masses s ps) (momenta s alongX ps) (momenta s alongY ps) ≡ done
-  update-is = refusals.update-done s ps (k .limits) (k .accepted .forces)
+  update-is : updateAnswer caller s (masses s ps) (momenta s alongX ps) (momenta s alongY ps) ≡ done
+  update-is = refusals.update-done caller s ps (entered caller (s .nx) (s .ny) records (k .accepted .own) .size) (k .limits) (k .accepted .forces)
 
-  gather-is : gatherAnswer (s .nx) (s .ny) records (u alongX) (u alongY) ≡ stepOf s ps
+  gather-is : gatherAnswer caller (s .nx) (s .ny) records (u alongX) (u alongY) ≡ stepOf s ps
   unfolding checkedSet stepBy steppedBy
   gather-is =
       let v = velocity-limits spline-lawful s ps (k .limits) (k .accepted .forces) in
@@ -91,7 +89,7 @@ module _ (s : Settings) (records : List ℕ) (lent : Grids) {ps : List Particle}
   left grids (result qs) m = ap₂ (λ t r. seen t r grids) (sym (m .answer)) (sym (m .left-is))
   left grids (refused n k) m = ap₂ (λ t r. seen t r grids) (sym (m .answer)) (sym (m .left-is))
 
-  module _ (c : ThreeCalls s records lent) where
+  module _ (c : ThreeCalls caller s records lent) where
     filled : Fills (s .nx) (s .ny) (result ps) (lent .mass) (lent .x) (lent .y) (c .scattered) (c .mass) (c .px) (c .py)
     filled = rw scatter-is at (c .scatter)
 
@@ -107,7 +105,7 @@ module _ (s : Settings) (records : List ℕ) (lent : Grids) {ps : List Particle}
     unfolding momentaBy
     py-is = ap (λ g. g .y) (filled .left-is)
 
-    accepted : updateAnswer s (c .mass) (c .px) (c .py) ≡ done
+    accepted : updateAnswer caller s (c .mass) (c .px) (c .py) ≡ done
     accepted = rw (mass-is, px-is, py-is) update-is
 
     updated : bothAxes (c .ux) (c .uy) ≡ bothAxes (velocities D s alongX (c .mass) (c .px)) (velocities D s alongY (c .mass) (c .py))
@@ -130,27 +128,27 @@ module _ (s : Settings) (records : List ℕ) (lent : Grids) {ps : List Particle}
     moves : Moves (stepOf s ps) records (c .gathered) (c .moved)
     moves =
         subst (λ a. Moves a records (c .gathered) (c .moved))
-        (ap₂ (gatherAnswer (s .nx) (s .ny) records) ux-is uy-is ∙ gather-is) (c .gather)
+        (ap₂ (gatherAnswer caller (s .nx) (s .ny) records) ux-is uy-is ∙ gather-is) (c .gather)
 
     grids-are : nodesOf s ps ≡ record { mass = c .mass; x = c .ux; y = c .uy }
     grids-are = sym (rw (mass-is, ux-is, uy-is))
 
-    leaves : stepAfter s records lent ≡ seen (c .gathered) (c .moved) (record { mass = c .mass; x = c .ux; y = c .uy })
+    leaves : stepAfter caller s records lent ≡ seen (c .gathered) (c .moved) (record { mass = c .mass; x = c .ux; y = c .uy })
     unfolding stepFrom
     leaves =
-        step-from s records lent e
+        step-from caller s records lent e
         ∙ left (nodesOf s ps) (stepOf s ps) moves
         ∙ ap (seen (c .gathered) (c .moved)) grids-are
 
-    is-step : IsStep s records lent c
+    is-step : IsStep caller s records lent c
     is-step = record { scatter-done = filled .answer; update-done = c .update .answer ∙ ap toldOf accepted; leaves = leaves }
 
 pub step-is-three-calls : StepIsThreeCalls
-step-is-three-calls s records lent ps e c = is-step s records lent e c
+step-is-three-calls caller s records lent ps e c = is-step caller s records lent e c
 
 -- the answers and buffers that the promises name
 pub three-calls-exist : ThreeCallsExist
-three-calls-exist s records lent =
+three-calls-exist caller s records lent =
     record {
       scattered = _;
       mass = _;

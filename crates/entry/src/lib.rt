@@ -1,6 +1,7 @@
-// The checks that an operation begins with, in the order of documents 01 and 02.
+// The checks that an operation begins with, in the order of documents 01 and 02, by who calls it; and Check a set.
 pub mod checks;
 
+use limits::Caller;
 use limits::MOST_DRAG;
 use limits::MOST_STEPS;
 use particle::RECORD_LENGTH;
@@ -10,7 +11,7 @@ use settings::Settings;
 ghost use mathlib.Core.Path.{_≡_};
 ghost use lib.ListN.{length};
 ghost use Rattle.refusal.specs.Refused.{result, andThen, done};
-ghost use Rattle.particles.specs.Set.{toldChecked};
+ghost use Rattle.particles.specs.Set.{toldChecked, checkAnswer};
 ghost use Rattle.entry.specs.Entry.{toldBegun, checkedForces, beginAnswer, entryAnswer};
 
 // The lengths of the grid buffers that a call is lent.
@@ -44,12 +45,18 @@ fn check_forces(settings: Settings) -> Begun
 }
 
 // The checks before the set, whose records have so many bytes.
-pub fn begin(settings: Settings, buffers: Buffers, steps: usize, bytes: usize) -> Begun
-    ensures { λ r. ⌜ toldBegun r ≡ beginAnswer settings buffers steps bytes ⌝ }
+pub fn begin(
+    caller: Caller,
+    settings: Settings,
+    buffers: Buffers,
+    steps: usize,
+    bytes: usize,
+) -> Begun
+    ensures { λ r. ⌜ toldBegun r ≡ beginAnswer caller settings buffers steps bytes ⌝ }
 {
     let nx = settings.nx;
     let ny = settings.ny;
-    if !particles::size_is_valid(nx, ny) {
+    if !particles::size_is_valid(limits::most_side(caller), nx, ny) {
         return Begun::Refused(Refusal::GridSize);
     }
     if !particles::length_is_valid(bytes) {
@@ -57,6 +64,9 @@ pub fn begin(settings: Settings, buffers: Buffers, steps: usize, bytes: usize) -
     }
     if !checks::are_long(nx * ny, buffers) {
         return Begun::Refused(Refusal::Length);
+    }
+    if limits::most_records(caller) < bytes / RECORD_LENGTH {
+        return Begun::Refused(Refusal::Count);
     }
     match check_forces(settings) {
         Begun::Refused(refusal) => return Begun::Refused(refusal),
@@ -69,10 +79,16 @@ pub fn begin(settings: Settings, buffers: Buffers, steps: usize, bytes: usize) -
 }
 
 // The same, and then the set: the number of its records.
-pub fn check(settings: Settings, buffers: Buffers, steps: usize, records: &[u8]) -> Checked
-    ensures { λ r. ⌜ toldChecked r ≡ andThen (entryAnswer settings buffers steps (now (records .entry))) (λ ps. result (length ps)) ⌝ }
+pub fn check(
+    caller: Caller,
+    settings: Settings,
+    buffers: Buffers,
+    steps: usize,
+    records: &[u8],
+) -> Checked
+    ensures { λ r. ⌜ toldChecked r ≡ andThen (entryAnswer caller settings buffers steps (now (records .entry))) (λ ps. result (length ps)) ⌝ }
 {
-    match begin(settings, buffers, steps, records.len()) {
+    match begin(caller, settings, buffers, steps, records.len()) {
         Begun::Refused(refusal) => Checked::Refused(refusal),
         Begun::Done => particles::check(
             settings.nx,
@@ -82,4 +98,11 @@ pub fn check(settings: Settings, buffers: Buffers, steps: usize, records: &[u8])
             records.len() / RECORD_LENGTH,
         ),
     }
+}
+
+// Check a set: the number of its records.
+pub fn check_set(caller: Caller, nx: usize, ny: usize, records: &[u8]) -> Checked
+    ensures { λ r. ⌜ toldChecked r ≡ checkAnswer caller nx ny (now (records .entry)) ⌝ }
+{
+    check(caller, settings::still(nx, ny), Buffers::None, 0, records)
 }

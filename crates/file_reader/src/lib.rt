@@ -2,12 +2,14 @@
 use bath_file::FileRead;
 use bath_file::HEADER_LENGTH;
 use bath_file::Header;
+use limits::Caller;
 use particle::RECORD_LENGTH;
 use particles::Checked;
 use refusal::Refusal;
 ghost use mathlib.Core.Path.{_≡_};
 ghost use lib.ListN.{length};
 ghost use Rattle.refusal.specs.Refused.{result};
+ghost use Rattle.limits.specs.declared.Caller.the-variants.{Bench};
 ghost use Rattle.bath_file.specs.Layout.{headerLength};
 ghost use Rattle.bath_file.specs.File.{headerIn, checkedHeader, spareIsZero, headerAnswer, recordsAnswer, fileAnswer, toldRead};
 
@@ -41,14 +43,14 @@ fn spare_is_zero(bytes: &[u8]) -> bool
 }
 
 // The header of a file of any length, without its records.
-pub fn read_header(bytes: &[u8]) -> FileRead
-    ensures { λ r. ⌜ toldRead r ≡ headerAnswer (now (bytes .entry)) ⌝ }
+pub fn read_header(caller: Caller, bytes: &[u8]) -> FileRead
+    ensures { λ r. ⌜ toldRead r ≡ headerAnswer caller (now (bytes .entry)) ⌝ }
 {
     if bytes.len() < HEADER_LENGTH {
         return FileRead::Refused(Refusal::Length);
     }
     let header = &bytes[..HEADER_LENGTH];
-    match header_check::check_values(unpack(header)) {
+    match header_check::check_values(caller, unpack(header)) {
         FileRead::Refused(refusal) => FileRead::Refused(refusal),
         FileRead::Accepted(h) => {
             if !spare_is_zero(header) {
@@ -61,7 +63,7 @@ pub fn read_header(bytes: &[u8]) -> FileRead
 
 // The answer for a file with this header: its length, and then its records. `read_file` calls it.
 fn check_records(h: Header, bytes: &[u8]) -> FileRead
-    requires { ⌜ checkedHeader h (result h) ≡ result h ⌝ }
+    requires { ⌜ checkedHeader Bench h (result h) ≡ result h ⌝ }
     ensures { λ r. ⌜ toldRead r ≡ recordsAnswer h (now (bytes .entry)) ⌝ }
 {
     let count = h.count;
@@ -75,10 +77,10 @@ fn check_records(h: Header, bytes: &[u8]) -> FileRead
 }
 
 // Read a file: any bytes. The result is the header's values, and the records lie behind the header.
-pub fn read_file(bytes: &[u8]) -> FileRead
-    ensures { λ r. ⌜ toldRead r ≡ fileAnswer (now (bytes .entry)) ⌝ }
+pub fn read_file(caller: Caller, bytes: &[u8]) -> FileRead
+    ensures { λ r. ⌜ toldRead r ≡ fileAnswer caller (now (bytes .entry)) ⌝ }
 {
-    match read_header(bytes) {
+    match read_header(caller, bytes) {
         FileRead::Refused(refusal) => FileRead::Refused(refusal),
         FileRead::Accepted(h) => check_records(h, bytes),
     }

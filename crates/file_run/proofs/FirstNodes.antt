@@ -8,6 +8,7 @@ use mathlib.Core.Path.{_≡_, ap, ap₂, _∙_}
 use mathlib.Core.List.{List, _++_}
 use lib.IntN.{ℤ}
 use lib.ListN.{drop}
+use Rattle.limits.specs.declared.Caller.the-variants.{Bench}
 use Rattle.apic.specs.Limits.{SizeLimits}
 use Rattle.settings.specs.declared.Settings.{Settings}
 use Rattle.apic.specs.Step.{gridsOf}
@@ -23,10 +24,10 @@ nodes-most l = mul-le-mul (l .x-most) (l .y-most)
 module _ (h : Header) {s : Settings} {n : ℕ} (settings : s ≡ settingsFor h) (size : n ≡ nodeCount h) (records mass : List ℕ) (x y : List ℤ) where
   pub on-first :
       {c : Completion} {records′ mass′ : List ℕ} {x′ y′ : List ℤ} →
-      Sees (runAfter s (h .steps) records (firstNodes n (gridsOf mass x y))) c records′ mass′ x′ y′ →
+      Sees (runAfter Bench s (h .steps) records (firstNodes n (gridsOf mass x y))) c records′ mass′ x′ y′ →
       Sees (runFirst h records (gridsOf mass x y)) c records′ (mass′ ++ drop n mass) (x′ ++ drop n x) (y′ ++ drop n y)
   on-first r =
-      let same = ap₂ (λ s n. runAfter s (h .steps) records (firstNodes n (gridsOf mass x y))) settings size in
+      let same = ap₂ (λ s n. runAfter Bench s (h .steps) records (firstNodes n (gridsOf mass x y))) settings size in
       record {
         answer = r .answer ∙ ap (λ a. a .answer) same;
         records = r .records ∙ ap (λ a. a .records) same;

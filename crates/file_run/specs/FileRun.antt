@@ -4,6 +4,7 @@ use mathlib.Core.List.{List, _++_}
 use lib.IntN.{ℤ}
 use lib.ListN.{length, take, drop}
 use Rattle.limits.specs.Limits.{mostSide}
+use Rattle.limits.specs.declared.Caller.the-variants.{Bench}
 use Rattle.settings.specs.declared.Settings.{Settings}
 use Rattle.settings.specs.Settings.{settingsWith}
 use Rattle.apic.specs.Step.{Grids, gridsOf}
@@ -36,8 +37,8 @@ pub record RunRoom (mass : List ℕ) (x y : List ℤ) : Type 0 where
   pub x-velocities : mostNodes ≤ length x
   pub y-velocities : mostNodes ≤ length y
 
--- the run that a header asks for, on the first nodes of such grids
+-- the bench's run that a header asks for, on the first nodes of such grids
 abbrev pub runFirst : Header → List ℕ → Grids → After Completion
 runFirst h records grids =
-    let ran = runAfter (settingsFor h) (h .steps) records (firstNodes (nodeCount h) grids) in
+    let ran = runAfter Bench (settingsFor h) (h .steps) records (firstNodes (nodeCount h) grids) in
     record { answer = ran .answer; records = ran .records; grids = withFirst (nodeCount h) (ran .grids) grids }

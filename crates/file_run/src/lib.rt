@@ -1,5 +1,6 @@
 // The run that a file's header asks for, on the first nodes of grids that have room for any run.
 use bath_file::Header;
+use limits::Caller;
 use limits::MOST_SIDE;
 use settings::Settings;
 use simulation::Ran;
@@ -31,7 +32,7 @@ fn nodes(nx: usize, ny: usize) -> usize
     nx * ny
 }
 
-// Runs the records of a file on the first nodes of the grids. The program calls it.
+// Runs the records of a file for the bench, on the first nodes of the grids. The program calls it.
 pub fn run_records(
     h: Header,
     records: &mut [u8],
@@ -45,6 +46,7 @@ pub fn run_records(
 {
     let size = nodes(h.nx, h.ny);
     run::run(
+        Caller::Bench,
         settings_of(h),
         h.steps,
         records,

@@ -1,6 +1,7 @@
 // Grid-to-particle transfer of a set of records.
 use entry::Begun;
 use gathering::Gathered;
+use limits::Caller;
 use packing::SET_NUMBERS;
 use particle::RECORD_LENGTH;
 use particles::SET_LENGTH;
@@ -92,10 +93,17 @@ fn gather_set(nx: usize, ny: usize, records: &mut [u8], ux: &[i64], uy: &[i64]) 
 }
 
 // Grid-to-particle transfer: the records then hold the moved particles. A refused call leaves every record as it was.
-pub fn gather(nx: usize, ny: usize, records: &mut [u8], ux: &[i64], uy: &[i64]) -> Moved
-    ensures { λ r. ⌜ GatherIs nx ny (now (records .entry)) (now (ux .entry)) (now (uy .entry)) (toldMoved r) (now (records .exit)) ⌝ }
+pub fn gather(
+    caller: Caller,
+    nx: usize,
+    ny: usize,
+    records: &mut [u8],
+    ux: &[i64],
+    uy: &[i64],
+) -> Moved
+    ensures { λ r. ⌜ GatherIs caller nx ny (now (records .entry)) (now (ux .entry)) (now (uy .entry)) (toldMoved r) (now (records .exit)) ⌝ }
 {
-    match gather_entry::check_gather(nx, ny, records, ux, uy) {
+    match gather_entry::check_gather(caller, nx, ny, records, ux, uy) {
         Begun::Refused(refusal) => Moved::Refused(refusal),
         Begun::Done => gather_set(nx, ny, records, ux, uy),
     }

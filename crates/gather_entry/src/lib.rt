@@ -1,6 +1,7 @@
 // What a gather checks before any particle moves: sizes, records, buffers, and the velocity of every node.
 use entry::Begun;
 use entry::Buffers;
+use limits::Caller;
 use limits::MOST_NODE_VELOCITY;
 use particles::Checked;
 use refusal::Refusal;
@@ -26,12 +27,19 @@ fn check_velocities(count: usize, ux: &[i64], uy: &[i64]) -> Begun
 }
 
 // The checks of a gather before any particle moves. Crate gather calls it.
-pub fn check_gather(nx: usize, ny: usize, records: &[u8], ux: &[i64], uy: &[i64]) -> Begun
-    ensures { λ r. ⌜ toldBegun r ≡ toldOf (checkedSet nx ny (now (records .entry)) (now (ux .entry)) (now (uy .entry))) ⌝ }
+pub fn check_gather(
+    caller: Caller,
+    nx: usize,
+    ny: usize,
+    records: &[u8],
+    ux: &[i64],
+    uy: &[i64],
+) -> Begun
+    ensures { λ r. ⌜ toldBegun r ≡ toldOf (checkedSet caller nx ny (now (records .entry)) (now (ux .entry)) (now (uy .entry))) ⌝ }
 {
     let settings = settings::still(nx, ny);
     let buffers = Buffers::Two(ux.len(), uy.len());
-    match entry::check(settings, buffers, 0, records) {
+    match entry::check(caller, settings, buffers, 0, records) {
         Checked::Refused(refusal) => Begun::Refused(refusal),
         Checked::Records(_) => check_velocities(ux.len(), ux, uy),
     }

@@ -1,21 +1,18 @@
 // The operations for programs in other languages: numbers and slices in, one number out, and values through the caller's arrays.
-// include/gondwize.h declares them for C.
-use bath_file::FileRead;
+// Those that have two callers are the bench's here and the lesson page's in `page`. include/gondwize.h declares them for C.
+pub mod page;
+
 use bath_file::HeaderWritten;
+use limits::Caller;
 use particle::NUMBERS;
 use particle::Read;
 use particle::Written;
-use particles::Checked;
-use simulation::Stepped;
 use spline::Weighed;
 use store::Changed;
 use store::Returned;
-use totals::Totalled;
-use transfer::Moved;
-use transfer::Scattered;
-use update::Updated;
 use wide::answer;
 ghost use mathlib.Core.Path.{_≡_};
+ghost use Rattle.limits.specs.declared.Caller.the-variants.{Bench};
 ghost use Rattle.particle.specs.Record.{numbers, readAnswer, writeAnswer, written};
 ghost use Rattle.particles.specs.Set.{checkAnswer};
 ghost use Rattle.totals.specs.Totals.{totalsAnswer, sums};
@@ -76,15 +73,9 @@ pub extern "C" fn gondwize_write_record(
 // Check a set: one value, the number of records.
 #[no_mangle]
 pub extern "C" fn gondwize_check_set(nx: usize, ny: usize, records: &[u8], count: &mut u64) -> u64
-    ensures { λ r. ⌜ Gives (checkAnswer nx ny (now (records .entry))) (λ n. n) (now (count .entry)) r (now (count .exit)) ⌝ }
+    ensures { λ r. ⌜ Gives (checkAnswer Bench nx ny (now (records .entry))) (λ n. n) (now (count .entry)) r (now (count .exit)) ⌝ }
 {
-    match particles::check_set(nx, ny, records) {
-        Checked::Refused(refusal) => answer::code(refusal),
-        Checked::Records(found) => {
-            *count = found as u64;
-            0
-        }
-    }
+    by_caller::check_set(Caller::Bench, nx, ny, records, count)
 }
 
 // Totals: six values.
@@ -95,15 +86,9 @@ pub extern "C" fn gondwize_totals(
     records: &[u8],
     values: &mut [i64; totals::SUMS],
 ) -> u64
-    ensures { λ r. ⌜ Gives (totalsAnswer nx ny (now (records .entry))) sums (now (values .entry)) r (now (values .exit)) ⌝ }
+    ensures { λ r. ⌜ Gives (totalsAnswer Bench nx ny (now (records .entry))) sums (now (values .entry)) r (now (values .exit)) ⌝ }
 {
-    match totals_set::set_totals(nx, ny, records) {
-        Totalled::Refused(refusal) => answer::code(refusal),
-        Totalled::Sums(t) => {
-            *values = totals_share::sums_of(t);
-            0
-        }
-    }
+    by_caller::totals(Caller::Bench, nx, ny, records, values)
 }
 
 // Weights: three values.
@@ -130,14 +115,11 @@ pub extern "C" fn gondwize_scatter(
     px: &mut [i64],
     py: &mut [i64],
 ) -> u64
-    ensures { λ r. ⌜ Tells (λ told. ScatterIs nx ny (now (records .entry))
+    ensures { λ r. ⌜ Tells (λ told. ScatterIs Bench nx ny (now (records .entry))
         (now (mass .entry)) (now (px .entry)) (now (py .entry)) told
         (now (mass .exit)) (now (px .exit)) (now (py .exit))) r ⌝ }
 {
-    match scatter::scatter(nx, ny, records, mass, px, py) {
-        Scattered::Refused(refusal) => answer::code(refusal),
-        Scattered::Done => 0,
-    }
+    by_caller::scatter(Caller::Bench, nx, ny, records, mass, px, py)
 }
 
 // The adding scatter.
@@ -150,14 +132,11 @@ pub extern "C" fn gondwize_adding_scatter(
     px: &mut [i64],
     py: &mut [i64],
 ) -> u64
-    ensures { λ r. ⌜ Tells (λ told. AddingIs nx ny (now (records .entry))
+    ensures { λ r. ⌜ Tells (λ told. AddingIs Bench nx ny (now (records .entry))
         (now (mass .entry)) (now (px .entry)) (now (py .entry)) told
         (now (mass .exit)) (now (px .exit)) (now (py .exit))) r ⌝ }
 {
-    match adding_scatter::adding_scatter(nx, ny, records, mass, px, py) {
-        Scattered::Refused(refusal) => answer::code(refusal),
-        Scattered::Done => 0,
-    }
+    by_caller::adding_scatter(Caller::Bench, nx, ny, records, mass, px, py)
 }
 
 // Update.
@@ -174,15 +153,23 @@ pub extern "C" fn gondwize_update(
     px: &mut [i64],
     py: &mut [i64],
 ) -> u64
-    ensures { λ r. ⌜ Tells (λ told. UpdateIs (settingsWith nx ny gx gy kind width drag)
+    ensures { λ r. ⌜ Tells (λ told. UpdateIs Bench (settingsWith nx ny gx gy kind width drag)
         (now (mass .entry)) (now (px .entry)) (now (py .entry)) told
         (now (px .exit)) (now (py .exit))) r ⌝ }
 {
-    let settings = settings::of_numbers(nx, ny, gx, gy, kind, width, drag);
-    match update_grid::update(settings, mass, px, py) {
-        Updated::Refused(refusal) => answer::code(refusal),
-        Updated::Done => 0,
-    }
+    by_caller::update(
+        Caller::Bench,
+        nx,
+        ny,
+        gx,
+        gy,
+        kind,
+        width,
+        drag,
+        mass,
+        px,
+        py,
+    )
 }
 
 // Gather.
@@ -194,14 +181,11 @@ pub extern "C" fn gondwize_gather(
     ux: &[i64],
     uy: &[i64],
 ) -> u64
-    ensures { λ r. ⌜ Tells (λ told. GatherIs nx ny
+    ensures { λ r. ⌜ Tells (λ told. GatherIs Bench nx ny
         (now (records .entry)) (now (ux .entry)) (now (uy .entry)) told
         (now (records .exit))) r ⌝ }
 {
-    match gather::gather(nx, ny, records, ux, uy) {
-        Moved::Refused(refusal) => answer::code(refusal),
-        Moved::Done => 0,
-    }
+    by_caller::gather(Caller::Bench, nx, ny, records, ux, uy)
 }
 
 // Step.
@@ -219,15 +203,24 @@ pub extern "C" fn gondwize_step(
     px: &mut [i64],
     py: &mut [i64],
 ) -> u64
-    ensures { λ r. ⌜ Tells (λ told. Sees (stepAfter (settingsWith nx ny gx gy kind width drag)
+    ensures { λ r. ⌜ Tells (λ told. Sees (stepAfter Bench (settingsWith nx ny gx gy kind width drag)
         (now (records .entry)) (gridsOf (now (mass .entry)) (now (px .entry)) (now (py .entry)))) told
         (now (records .exit)) (now (mass .exit)) (now (px .exit)) (now (py .exit))) r ⌝ }
 {
-    let settings = settings::of_numbers(nx, ny, gx, gy, kind, width, drag);
-    match run::step(settings, records, mass, px, py) {
-        Stepped::Refused(refusal) => answer::code(refusal),
-        Stepped::Done => 0,
-    }
+    by_caller::step(
+        Caller::Bench,
+        nx,
+        ny,
+        gx,
+        gy,
+        kind,
+        width,
+        drag,
+        records,
+        mass,
+        px,
+        py,
+    )
 }
 
 // Run: one value, the number of completed steps.
@@ -247,11 +240,12 @@ pub extern "C" fn gondwize_run(
     py: &mut [i64],
     completed: &mut u64,
 ) -> u64
-    ensures { λ r. ⌜ RunTells (settingsWith nx ny gx gy kind width drag) steps
+    ensures { λ r. ⌜ RunTells Bench (settingsWith nx ny gx gy kind width drag) steps
         (now (records .entry)) (gridsOf (now (mass .entry)) (now (px .entry)) (now (py .entry))) r
         (now (records .exit)) (now (mass .exit)) (now (px .exit)) (now (py .exit)) (now (completed .exit)) ⌝ }
 {
     coding::run_told(
+        Caller::Bench,
         nx,
         ny,
         gx,
@@ -271,15 +265,9 @@ pub extern "C" fn gondwize_run(
 // Read a file: nine values.
 #[no_mangle]
 pub extern "C" fn gondwize_read_file(bytes: &[u8], values: &mut [i64; wide::SETTINGS]) -> u64
-    ensures { λ r. ⌜ Gives (fileAnswer (now (bytes .entry))) settings (now (values .entry)) r (now (values .exit)) ⌝ }
+    ensures { λ r. ⌜ Gives (fileAnswer Bench (now (bytes .entry))) settings (now (values .entry)) r (now (values .exit)) ⌝ }
 {
-    match file_reader::read_file(bytes) {
-        FileRead::Refused(refusal) => answer::code(refusal),
-        FileRead::Accepted(h) => {
-            *values = wide::of_header(h);
-            0
-        }
-    }
+    by_caller::read_file(Caller::Bench, bytes, values)
 }
 
 // Write a header.
@@ -309,13 +297,10 @@ pub extern "C" fn gondwize_write_header(
 // Keep.
 #[no_mangle]
 pub extern "C" fn gondwize_keep(store: &mut [u8], name: &[u8], file: &[u8]) -> u64
-    ensures answer { λ r. ⌜ r ≡ coded (keepAnswer (now (store .entry)) (now (name .entry)) (now (file .entry))) ⌝ }
-    ensures store { λ _. ⌜ now (store .exit) ≡ keepLeaves (now (store .entry)) (now (name .entry)) (now (file .entry)) ⌝ }
+    ensures answer { λ r. ⌜ r ≡ coded (keepAnswer Bench (now (store .entry)) (now (name .entry)) (now (file .entry))) ⌝ }
+    ensures store { λ _. ⌜ now (store .exit) ≡ keepLeaves Bench (now (store .entry)) (now (name .entry)) (now (file .entry)) ⌝ }
 {
-    match store_calls::keep(store, name, file) {
-        Changed::Refused(refusal) => answer::code(refusal),
-        Changed::Done => 0,
-    }
+    by_caller::keep(Caller::Bench, store, name, file)
 }
 
 // Return: one value, the length of the file.

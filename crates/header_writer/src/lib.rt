@@ -3,11 +3,13 @@ use bath_file::FileRead;
 use bath_file::HEADER_LENGTH;
 use bath_file::Header;
 use bath_file::HeaderWritten;
+use limits::Caller;
 use refusal::Refusal;
 ghost use mathlib.Core.Path.{_≡_};
 ghost use mathlib.Core.List.{[], _∷_};
 ghost use lib.ListN.{length};
 ghost use Rattle.refusal.specs.Refused.{result};
+ghost use Rattle.limits.specs.declared.Caller.the-variants.{Bench};
 ghost use Rattle.bits.specs.Internal.{Below};
 ghost use Rattle.bits.specs.Layout.{widths, filled};
 ghost use Rattle.bath_file.specs.Layout.{layout, headerLength};
@@ -47,7 +49,7 @@ fn put(
 
 // Writes the bytes that hold a header. `write_header` calls it with a header that it accepts.
 fn pack(h: Header, bytes: &mut [u8])
-    requires { ⌜ (checkedHeader h (result h) ≡ result h) × (length (now bytes) ≡ headerLength) ⌝ }
+    requires { ⌜ (checkedHeader Bench h (result h) ≡ result h) × (length (now bytes) ≡ headerLength) ⌝ }
     ensures { λ _. ⌜ now (bytes .exit) ≡ headerOf h ⌝ }
 {
     let gx = bits::residue(h.gx, 16384);
@@ -66,7 +68,7 @@ fn pack(h: Header, bytes: &mut [u8])
     );
 }
 
-// Write a header: any numbers, any buffer. A refused call leaves the buffer as it was.
+// Write a header: any numbers, any buffer, by the bench's limits. A refused call leaves the buffer as it was.
 pub fn write_header(h: Header, bytes: &mut [u8]) -> HeaderWritten
     ensures answer { λ r. ⌜ toldWritten r ≡ writeAnswer h (now (bytes .entry)) ⌝ }
     ensures buffer { λ _. ⌜ now (bytes .exit) ≡ written h (now (bytes .entry)) ⌝ }
@@ -74,7 +76,7 @@ pub fn write_header(h: Header, bytes: &mut [u8]) -> HeaderWritten
     if bytes.len() != HEADER_LENGTH {
         return HeaderWritten::Refused(Refusal::Length);
     }
-    match header_check::check_values(h) {
+    match header_check::check_values(Caller::Bench, h) {
         FileRead::Refused(refusal) => HeaderWritten::Refused(refusal),
         FileRead::Accepted(accepted) => {
             pack(accepted, bytes);

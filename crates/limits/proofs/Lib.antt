@@ -1,2 +1,3 @@
+pub mod Callers
 pub mod Flags
 pub mod Within

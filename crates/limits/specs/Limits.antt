@@ -1,18 +1,22 @@
 -- The limits of document 01 ("Units" and "Records") and of document 02 by name, and the tests for them.
---     leastSide, mostSide         nodes along an axis
+--     leastSide, mostSide         nodes along an axis; the most are the bench's, and so are mostRecords
 --     leastMass, mostMass, mostVelocity, mostAffine, mostPosition     the numbers of one particle
 --     mostRecords, mostTotalMass  a set of them
 --     mostNodeMass, mostNodeVelocity     a node
 --     mostPresentMomentum         a node that is added to, for each unit of its mass
 --     mostGravity, mostSteps      what a run is asked for
 --     leastWidth, mostWidth, mostDrag     the edge's band, and drag
+--     mostPageSide, mostPageRecords      the lesson page
+--     mostSideOf, mostRecordsOf, CallerLimits     by who calls
 --     between, isℤ, valid..       a number is within its limits
 -- Assumes nothing.
-use Prim.Native.Nat.{ℕ, _^_}
+use Prim.Native.Nat.{ℕ, _^_, _≤_}
 use mathlib.Core.Bool.{Bool, _&&_}
 use lib.Dec.{leb}
 use lib.IntN.{ℤ, pos, negℤ}
 use lib.Signed.{leZ}
+use Rattle.limits.specs.declared.Caller.{Caller}
+use Rattle.limits.specs.declared.Caller.the-variants.{Bench, Page}
 
 abbrev pub leastSide : ℕ
 leastSide = 4
@@ -64,6 +68,27 @@ mostWidth = 3
 
 abbrev pub mostDrag : ℕ
 mostDrag = 255
+
+-- document 02, Paper 9: "at most 512 records and 16 nodes each way"
+abbrev pub mostPageSide : ℕ
+mostPageSide = 16
+
+abbrev pub mostPageRecords : ℕ
+mostPageRecords = 512
+
+abbrev pub mostSideOf : Caller → ℕ
+mostSideOf Bench = mostSide
+mostSideOf Page = mostPageSide
+
+abbrev pub mostRecordsOf : Caller → ℕ
+mostRecordsOf Bench = mostRecords
+mostRecordsOf Page = mostPageRecords
+
+-- a bath of nx by ny nodes and so many records is within a caller's limits
+pub record CallerLimits (caller : Caller) (nx ny records : ℕ) : Type 0 where
+  pub x-within : nx ≤ mostSideOf caller
+  pub y-within : ny ≤ mostSideOf caller
+  pub records-within : records ≤ mostRecordsOf caller
 
 abbrev pub between : ℤ → ℤ → ℤ → Bool
 between low high z = leZ low z && leZ z high

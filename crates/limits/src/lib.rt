@@ -1,7 +1,7 @@
 // The limits of document 01 ("Units" and "Records") and of document 02 by name, and the tests against them.
 ghost use mathlib.Core.Path.{_≡_};
 ghost use mathlib.Core.Bool.{_&&_, _||_};
-ghost use Rattle.limits.specs.Limits.{between, isℤ, validMass, validPosition};
+ghost use Rattle.limits.specs.Limits.{between, isℤ, validMass, validPosition, mostSideOf, mostRecordsOf};
 
 // The number of nodes along an axis.
 pub const LEAST_SIDE: usize = 4;
@@ -49,6 +49,37 @@ pub const LEAST_WIDTH: usize = 1;
 pub const MOST_WIDTH: usize = 3;
 
 pub const MOST_DRAG: usize = 255;
+
+// The lesson page's number of nodes along an axis, and of records in a set.
+const MOST_PAGE_SIDE: usize = 16;
+
+const MOST_PAGE_RECORDS: usize = 512;
+
+// Who calls an operation: the bench, or the lesson page, which has smaller limits.
+pub enum Caller {
+    Bench,
+    Page,
+}
+
+// The most nodes along an axis that a caller may have.
+pub fn most_side(caller: Caller) -> usize
+    ensures { λ r. ⌜ r ≡ mostSideOf caller ⌝ }
+{
+    match caller {
+        Caller::Bench => MOST_SIDE,
+        Caller::Page => MOST_PAGE_SIDE,
+    }
+}
+
+// The most records in a set that a caller may have.
+pub fn most_records(caller: Caller) -> usize
+    ensures { λ r. ⌜ r ≡ mostRecordsOf caller ⌝ }
+{
+    match caller {
+        Caller::Bench => MOST_RECORDS,
+        Caller::Page => MOST_PAGE_RECORDS,
+    }
+}
 
 fn between(value: i16, low: i16, high: i16) -> bool
     ensures { λ r. ⌜ r ≡ between low high value ⌝ }

@@ -14,6 +14,7 @@ use Rattle.refusal.specs.Refused.{Answer, result, refused, andThen, either}
 use Rattle.refusal.proofs.Answers.{went-on}
 use Rattle.arith.specs.Rounding.{rounded}
 use Rattle.arith.specs.Sums.{total-same}
+use Rattle.limits.specs.declared.Caller.{Caller}
 use Rattle.spline.specs.Spline.{axisWeight, D}
 use Rattle.particle.specs.declared.Particle.{Particle}
 use Rattle.particle.specs.Record.{label}
@@ -56,13 +57,13 @@ arrives-labels (s ∷ ss) ps = arrives-labels ss (stepped s ps) ∙ kept-labels 
 works-labels : {ss : List Settings} {before after : List ℕ} → Works ss before after → labelsIn after ≡ labelsIn before
 works-labels {ss} {before} w = ap (map label) (w .last) ∙ arrives-labels ss (particlesIn before)
 
-let-in : (s : Settings) (records : List ℕ) (grids : Grids) (steps : ℕ) {ps : List Particle} → entryAnswer s (buffersOf grids) steps records ≡ result ps → Accepted records
-let-in s records grids steps {ps} e =
+let-in : (caller : Caller) (s : Settings) (records : List ℕ) (grids : Grids) (steps : ℕ) {ps : List Particle} → entryAnswer caller s (buffersOf grids) steps records ≡ result ps → Accepted records
+let-in caller s records grids steps {ps} e =
     record {
       nx = s .nx;
       ny = s .ny;
       count = length ps;
-      accepts = ap (λ a. andThen a (λ qs. result (length qs))) (accepted s (buffersOf grids) steps records e .set);
+      accepts = ap (λ a. andThen a (λ qs. result (length qs))) (accepted caller s (buffersOf grids) steps records e .set);
     }
 
 -- by what the checks at entry answer
@@ -72,20 +73,20 @@ by-entry (refused n k) passed stopped = ap labelsIn (stopped n k refl)
 
 call-labels : (c : Call) (records : List ℕ) → labelsIn (leaves c records) ≡ labelsIn records
 unfolding stepEntry stepAfter runEntry runAfter
-call-labels (step s grids) records =
-    by-entry {after = stepAfter s records grids .records} (stepEntry s records grids)
-    (λ ps e. works-labels (call-works (step s grids) records (let-in s records grids 0 e)))
+call-labels (step caller s grids) records =
+    by-entry {after = stepAfter caller s records grids .records} (stepEntry caller s records grids)
+    (λ ps e. works-labels (call-works (step caller s grids) records (let-in caller s records grids 0 e)))
     (λ n k e. rw e refl)
-call-labels (run s steps grids) records =
-    by-entry {after = runAfter s steps records grids .records} (runEntry s steps records grids)
-    (λ ps e. works-labels (call-works (run s steps grids) records (let-in s records grids steps e)))
+call-labels (run caller s steps grids) records =
+    by-entry {after = runAfter caller s steps records grids .records} (runEntry caller s steps records grids)
+    (λ ps e. works-labels (call-works (run caller s steps grids) records (let-in caller s records grids steps e)))
     (λ n k e. rw e refl)
 
 pub step-keeps-marks : StepKeepsMarks
-step-keeps-marks s records grids = keeps (call-labels (step s grids) records)
+step-keeps-marks caller s records grids = keeps (call-labels (step caller s grids) records)
 
 pub run-keeps-marks : RunKeepsMarks
-run-keeps-marks s steps records grids = keeps (call-labels (run s steps grids) records)
+run-keeps-marks caller s steps records grids = keeps (call-labels (run caller s steps grids) records)
 
 calls-labels : (calls : List Call) (records : List ℕ) → labelsIn (leavesAll calls records) ≡ labelsIn records
 unfolding leavesAll
@@ -97,22 +98,22 @@ calls-keep-marks calls records = keeps (calls-labels calls records)
 
 -- ---- gather
 
-module _ (nx ny : ℕ) (records : List ℕ) (ux uy : List ℤ) where
-  gathered-labels : {qs : List Particle} → gatherAnswer nx ny records ux uy ≡ result qs → labelsIn (recordsOf qs) ≡ labelsIn records
+module _ (caller : Caller) (nx ny : ℕ) (records : List ℕ) (ux uy : List ℤ) where
+  gathered-labels : {qs : List Particle} → gatherAnswer caller nx ny records ux uy ≡ result qs → labelsIn (recordsOf qs) ≡ labelsIn records
   gathered-labels e =
-      let checked = went-on (checkedSet nx ny records ux uy) (λ ps. moveAnswer nx ny ux uy ps) e in
+      let checked = went-on (checkedSet caller nx ny records ux uy) (λ ps. moveAnswer nx ny ux uy ps) e in
       let ps = checked .0 in
-      let in-set = set-accepted nx ny records ux uy (checked .1) in
+      let in-set = set-accepted caller nx ny records ux uy (checked .1) in
       let moves = checks-result nx ny (gathered axisWeight nx ny ux uy) 0 ps (map (gathered axisWeight nx ny ux uy) ps) (checked .2) in
       ap (λ rs. labelsIn (recordsOf rs)) (sym (moves .1))
       ∙ ap (map label) (records-particles (set-kept axisWeight nx ny ux uy 0 ps (accepted-limits nx ny records in-set) (moves .0)))
       ∙ gather-labels rounded axisWeight nx ny (node nx ux) (node nx uy) ps
       ∙ ap (map label) (sym (particlesIn-accepted nx ny records in-set))
 
-  left-labels : (a : Answer (List Particle)) → gatherAnswer nx ny records ux uy ≡ a → labelsIn (either a recordsOf (λ n k. records)) ≡ labelsIn records
+  left-labels : (a : Answer (List Particle)) → gatherAnswer caller nx ny records ux uy ≡ a → labelsIn (either a recordsOf (λ n k. records)) ≡ labelsIn records
   left-labels (result qs) e = gathered-labels e
   left-labels (refused n k) e = refl
 
 pub gather-keeps-marks : GatherKeepsMarks
-gather-keeps-marks nx ny records ux uy told after is =
-    keeps (ap labelsIn (is .left-is) ∙ left-labels nx ny records ux uy (gatherAnswer nx ny records ux uy) refl)
+gather-keeps-marks caller nx ny records ux uy told after is =
+    keeps (ap labelsIn (is .left-is) ∙ left-labels caller nx ny records ux uy (gatherAnswer caller nx ny records ux uy) refl)

@@ -5,6 +5,7 @@ use mathlib.Core.List.{List, map}
 use Prim.Native.Nat.{ℕ}
 use lib.IntN.{ℤ}
 use Rattle.refusal.specs.Refused.{Answer}
+use Rattle.limits.specs.declared.Caller.{Caller}
 use Rattle.particle.specs.Record.{label}
 use Rattle.particles.specs.Set.{particlesIn}
 use Rattle.settings.specs.declared.Settings.{Settings}
@@ -23,15 +24,15 @@ pub record KeepsMarks (before after : List ℕ) : Type 0 where
 
 abbrev pub GatherKeepsMarks : Type 0
 GatherKeepsMarks =
-    (nx ny : ℕ) (records : List ℕ) (ux uy : List ℤ) (told : Answer Unit) (after : List ℕ)
-    → GatherIs nx ny records ux uy told after → KeepsMarks records after
+    (caller : Caller) (nx ny : ℕ) (records : List ℕ) (ux uy : List ℤ) (told : Answer Unit) (after : List ℕ)
+    → GatherIs caller nx ny records ux uy told after → KeepsMarks records after
 
 abbrev pub StepKeepsMarks : Type 0
-StepKeepsMarks = (s : Settings) (records : List ℕ) (grids : Grids) → KeepsMarks records (stepAfter s records grids .records)
+StepKeepsMarks = (caller : Caller) (s : Settings) (records : List ℕ) (grids : Grids) → KeepsMarks records (stepAfter caller s records grids .records)
 
 abbrev pub RunKeepsMarks : Type 0
 RunKeepsMarks =
-    (s : Settings) (steps : ℕ) (records : List ℕ) (grids : Grids) → KeepsMarks records (runAfter s steps records grids .records)
+    (caller : Caller) (s : Settings) (steps : ℕ) (records : List ℕ) (grids : Grids) → KeepsMarks records (runAfter caller s steps records grids .records)
 
 abbrev pub CallsKeepMarks : Type 0
 CallsKeepMarks = (calls : List Call) (records : List ℕ) → KeepsMarks records (leavesAll calls records)

@@ -1,11 +1,12 @@
 -- What it means that a set is accepted, for those who doubt the walk: it breaks no limit, and its bytes are its particles'
 -- records.
 --     accepted-limits      an accepted set breaks no limit
+--     accepted-within      nor any of its caller's
 --     accepted-records     writing its particles back gives the set
---     limits-accepted      the records of particles that break no limit are accepted, as those particles
+--     within-accepted, limits-accepted     the records of particles that break no limit are accepted, as those particles
 -- Assumes nothing.
 use mathlib.Core.Path.{_≡_, refl, sym, ap, ap₂, _∙_, subst}
-use mathlib.Core.Bool.{true}
+use mathlib.Core.Bool.{true, false}
 use mathlib.Core.List.{List, [], _∷_, _++_, append-assoc}
 use Prim.Native.Nat.{ℕ, zero, suc, _+_, _*_, _-_, _/_, _%_, _≤_, _<_, zero-le}
 use native.Mathlib.Nat.{zero-add}
@@ -14,13 +15,15 @@ use lib.Dec.{T, leb, leb→le}
 use lib.ListN.{length, take, drop, getD, length-append, take-append-drop, drop-of-length-le}
 use lib.Seq.{drop-drop, drop-at, take-at}
 use mir.Facts.{and-yes}
-use borrow.Author.Tests.{le-leb, le-ltb, eq-eqb}
+use borrow.Author.Tests.{le-leb, le-ltb, eq-eqb, ltb-false}
 use Rattle.refusal.specs.Refused.{result, andThen}
 use Rattle.refusal.proofs.Answers.{same-result}
 use Rattle.arith.specs.Order.{is-true}
 use Rattle.arith.specs.Sums.{Each}
 use Rattle.spline.specs.Spline.{onAxis}
-use Rattle.limits.specs.Limits.{leastSide, mostSide, mostPosition, mostRecords, mostTotalMass}
+use Rattle.limits.specs.declared.Caller.{Caller}
+use Rattle.limits.specs.declared.Caller.the-variants.{Bench}
+use Rattle.limits.specs.Limits.{mostSide, mostPosition, mostRecords, mostTotalMass, mostSideOf, mostRecordsOf, CallerLimits}
 use Rattle.bits.proofs.Bytes.{small-part}
 use Rattle.particle.specs.declared.Particle.{Particle}
 use Rattle.particle.specs.Layout.{recordLength}
@@ -28,8 +31,8 @@ use Rattle.particle.specs.Record.{readAnswer, recordOf, Valid}
 use Rattle.particle.proofs.RoundTrip.{read-held, record-of-read, read-of-valid, record-length}
 use Rattle.apic.specs.Totals.{totalMass}
 use Rattle.apic.specs.Limits.{SizeLimits, ParticleLimits, Rising, SetLimits}
-use Rattle.particles.specs.Set.{validSize, setLength, validLength, recordAt, recordCount, recordsOf, checkedParticle, setFrom, setAnswer}
-use Rattle.particles.proofs.Checks.{ParticlePasses, taken, counted, entered, size-limits, length-limits}
+use Rattle.particles.specs.Set.{setLength, validLength, recordAt, recordCount, recordsOf, checkedParticle, setFrom, tooMany, setAnswer}
+use Rattle.particles.proofs.Checks.{ParticlePasses, taken, counted, entered, sides, sides-valid, size-limits, length-limits}
 
 -- ---- no limit is broken
 
@@ -85,18 +88,28 @@ module _ (nx ny start : ℕ) (bytes : List ℕ) where
       regroup : (a b c : ℕ) → a + b + c ≤ mostTotalMass → a + (b + c) ≤ mostTotalMass
       regroup a b c h = omega arith
 
-pub accepted-limits : (nx ny : ℕ) (bytes : List ℕ) {ps : List Particle} → setAnswer nx ny bytes ≡ result ps → SetLimits nx ny ps
+pub accepted-limits : (nx ny : ℕ) (bytes : List ℕ) {ps : List Particle} → setAnswer Bench nx ny bytes ≡ result ps → SetLimits nx ny ps
 accepted-limits nx ny bytes {ps} e =
-    let n = entered nx ny bytes e in
+    let n = entered Bench nx ny bytes e in
     let w = walk-within nx ny 0 bytes (recordCount bytes) 0 0 0 (omega arith) (n .set) in
     let c = counted nx ny 0 bytes (recordCount bytes) 0 0 0 (n .set) in
     let l = length-limits (length bytes) (n .whole) in
     record {
-      sizes = size-limits nx ny (n .size);
+      sizes = size-limits Bench nx ny (n .size);
       count = rw c (l .count);
       each = w .each;
       rising = rising 0 ps (w .rises);
       mass = rw (zero-add (totalMass ps)) at (w .light);
+    }
+
+pub accepted-within : (c : Caller) (nx ny : ℕ) (bytes : List ℕ) {ps : List Particle} → setAnswer c nx ny bytes ≡ result ps → CallerLimits c nx ny (length ps)
+accepted-within c nx ny bytes {ps} e =
+    let n = entered c nx ny bytes e in
+    let s = sides (mostSideOf c) nx ny (n .size) in
+    record {
+      x-within = s .x-most;
+      y-within = s .y-most;
+      records-within = rw (counted nx ny 0 bytes (recordCount bytes) 0 0 0 (n .set)) (ltb-false (mostRecordsOf c) (recordCount bytes) (n .few));
     }
 
 -- ---- the bytes are the records
@@ -118,9 +131,9 @@ module _ (nx ny start : ℕ) (bytes : List ℕ) (small : (i : ℕ) → getD byte
       next : (k : ℕ) → start + recordLength * k + recordLength ≡ start + recordLength * suc k
       next k = omega arith
 
-pub accepted-records : (nx ny : ℕ) (bytes : List ℕ) {ps : List Particle} → ((i : ℕ) → getD bytes i 0 < 256) → setAnswer nx ny bytes ≡ result ps → bytes ≡ recordsOf ps
+pub accepted-records : (nx ny : ℕ) (bytes : List ℕ) {ps : List Particle} → ((i : ℕ) → getD bytes i 0 < 256) → setAnswer Bench nx ny bytes ≡ result ps → bytes ≡ recordsOf ps
 accepted-records nx ny bytes small e =
-    let n = entered nx ny bytes e in
+    let n = entered Bench nx ny bytes e in
     walk-records nx ny 0 bytes small (recordCount bytes) 0 0 0 (all (length-limits (length bytes) (n .whole) .whole)) (n .set)
   where
     all : recordLength * (length bytes / recordLength) ≡ length bytes → 0 + recordLength * (0 + length bytes / recordLength) ≡ length bytes
@@ -206,25 +219,28 @@ unfolding RisingFrom
 from-zero [] r = tt
 from-zero (p ∷ ps) r = rising-from 0 p ps zero-le r
 
-pub limits-accepted : (nx ny : ℕ) (ps : List Particle) → SetLimits nx ny ps → setAnswer nx ny (recordsOf ps) ≡ result ps
-limits-accepted nx ny ps l =
+pub within-accepted : (c : Caller) (nx ny : ℕ) (ps : List Particle) → SetLimits nx ny ps → CallerLimits c nx ny (length ps) → setAnswer c nx ny (recordsOf ps) ≡ result ps
+within-accepted c nx ny ps l w =
     let n = records-length ps in
-    rw
-    (is-size, is-whole (length (recordsOf ps)) (length ps) n (l .count), counts (length (recordsOf ps)) (length ps) n)
+    rw (
+      sides-valid (record { x-least = l .sizes .x-least; x-most = w .x-within; y-least = l .sizes .y-least; y-most = w .y-within }),
+      is-whole (length (recordsOf ps)) (length ps) n (l .count),
+      is-few (length (recordsOf ps)) (length ps) n (w .records-within),
+      counts (length (recordsOf ps)) (length ps) n,
+    )
     (walk-back nx ny (l .sizes) [] ps 0 0 0 0 refl
     (record { each = l .each; rises = from-zero ps (l .rising); light = rw (zero-add (totalMass ps)) (l .mass) }))
   where
-    is-size : validSize nx ny ≡ true
-    is-size =
-        rw (
-          le-leb leastSide nx (l .sizes .x-least),
-          le-leb nx mostSide (l .sizes .x-most),
-          le-leb leastSide ny (l .sizes .y-least),
-          le-leb ny mostSide (l .sizes .y-most),
-        )
-
     is-whole : (b n : ℕ) → b ≡ recordLength * n → n ≤ mostRecords → validLength b ≡ true
     is-whole b n e h = rw (eq-eqb (b % recordLength) 0 (omega arith), le-leb b setLength (omega arith))
 
     counts : (b n : ℕ) → b ≡ recordLength * n → b / recordLength ≡ n
     counts b n e = omega arith
+
+    is-few : (b n : ℕ) → b ≡ recordLength * n → n ≤ mostRecordsOf c → tooMany c b ≡ false
+    is-few b n e h = le-ltb (mostRecordsOf c) (b / recordLength) (rw (counts b n e) h)
+
+pub limits-accepted : (nx ny : ℕ) (ps : List Particle) → SetLimits nx ny ps → setAnswer Bench nx ny (recordsOf ps) ≡ result ps
+limits-accepted nx ny ps l =
+    within-accepted Bench nx ny ps l
+    (record { x-within = l .sizes .x-most; y-within = l .sizes .y-most; records-within = l .count })

@@ -1,37 +1,69 @@
--- The checks as facts: of sizes and lengths, of a record's length, and of an accepted set, record by record. Assumes nothing.
-use mathlib.Core.Path.{_≡_, sym, ap, _∙_, subst}
+-- The checks as facts: of sizes and lengths, of a record's length, and of an accepted set, record by record; what a caller is let in
+-- with, the bench is too. Assumes nothing.
+use mathlib.Core.Path.{_≡_, sym, ap, ap₂, _∙_, subst}
 use mathlib.Core.Bool.{Bool, true, false, not, _&&_}
 use mathlib.Core.List.{List, _∷_}
 use Prim.Native.Nat.{ℕ, zero, suc, _+_, _*_, _/_, _%_, _≤_}
+use native.Mathlib.Nat.{le-trans}
 use native.Mathlib.Omega.{arith}
 use lib.Dec.{T, leb, ltb, eqb, leb→le, eqb→eq}
 use lib.ListN.{length, drop, length-drop}
 use lib.Seq.{length-take-le}
 use mir.Facts.{and-yes}
-use borrow.Author.Tests.{not-false, ltb-false}
-use Rattle.refusal.specs.Refused.{Answer, result, refused, andThen}
+use borrow.Author.Tests.{not-false, ltb-false, le-leb, le-ltb}
+use Rattle.refusal.specs.Refused.{result}
 use Rattle.refusal.proofs.Answers.{same-result, passed, right-length, went-on}
-use Rattle.limits.specs.Limits.{leastSide, mostSide, mostRecords, mostTotalMass}
+use Rattle.limits.specs.declared.Caller.{Caller}
+use Rattle.limits.specs.declared.Caller.the-variants.{Bench}
+use Rattle.limits.specs.Limits.{leastSide, mostRecords, mostTotalMass, mostSideOf}
+use Rattle.limits.proofs.Callers.{side-most, same-side}
 use Rattle.particle.specs.declared.Particle.{Particle}
 use Rattle.particle.specs.Layout.{recordLength}
 use Rattle.particle.specs.Record.{particleOf, readParticle, readAnswer}
 use Rattle.spline.specs.Spline.{onAxis}
 use Rattle.apic.specs.Limits.{SizeLimits}
-use Rattle.particles.specs.Set.{validSize, setLength, validLength, recordAt, recordCount, onGrid, checkedParticle, setFrom, setOf, setAnswer}
+use Rattle.particles.specs.Set.{validSize, setLength, validLength, recordAt, recordCount, onGrid, checkedParticle, setFrom, setOf, tooMany, setAnswer}
 
 holds : {b : Bool} → b ≡ true → T b
 holds e = subst T (sym e) tt
 
-pub size-limits : (nx ny : ℕ) → validSize nx ny ≡ true → SizeLimits nx ny
-size-limits nx ny e =
-    let xy = and-yes (leb leastSide nx && leb nx mostSide) (leb leastSide ny && leb ny mostSide) (holds e) in
-    let x = and-yes (leb leastSide nx) (leb nx mostSide) (xy .0) in
-    let y = and-yes (leb leastSide ny) (leb ny mostSide) (xy .1) in
+-- sizes from the least to a limit
+pub record Sides (most nx ny : ℕ) : Type 0 where
+  pub x-least : leastSide ≤ nx
+  pub x-most : nx ≤ most
+  pub y-least : leastSide ≤ ny
+  pub y-most : ny ≤ most
+
+pub sides : (most nx ny : ℕ) → validSize most nx ny ≡ true → Sides most nx ny
+sides most nx ny e =
+    let xy = and-yes (leb leastSide nx && leb nx most) (leb leastSide ny && leb ny most) (holds e) in
+    let x = and-yes (leb leastSide nx) (leb nx most) (xy .0) in
+    let y = and-yes (leb leastSide ny) (leb ny most) (xy .1) in
     record {
       x-least = leb→le leastSide nx (x .0);
-      x-most = leb→le nx mostSide (x .1);
+      x-most = leb→le nx most (x .1);
       y-least = leb→le leastSide ny (y .0);
-      y-most = leb→le ny mostSide (y .1);
+      y-most = leb→le ny most (y .1);
+    }
+
+pub sides-valid : {most nx ny : ℕ} → Sides most nx ny → validSize most nx ny ≡ true
+sides-valid {most} {nx} {ny} s =
+    rw (
+      le-leb leastSide nx (s .x-least),
+      le-leb nx most (s .x-most),
+      le-leb leastSide ny (s .y-least),
+      le-leb ny most (s .y-most),
+    )
+
+-- a caller's sizes are the engine's
+pub size-limits : (c : Caller) (nx ny : ℕ) → validSize (mostSideOf c) nx ny ≡ true → SizeLimits nx ny
+size-limits c nx ny e =
+    let s = sides (mostSideOf c) nx ny e in
+    record {
+      x-least = s .x-least;
+      x-most = le-trans (s .x-most) (side-most c);
+      y-least = s .y-least;
+      y-most = le-trans (s .y-most) (side-most c);
     }
 
 pub record LengthLimits (n : ℕ) : Type 0 where
@@ -114,26 +146,44 @@ counted nx ny start bytes (suc left) k least mass e =
 
 -- ---- the operations' answers
 
-module _ (nx ny : ℕ) (bytes : List ℕ) where
-  -- what an operation makes of an accepted set does not count where the set is refused at entry
-  module _ {B : Type 0} (next : List Particle → Answer B) where
-    pub bad-size : validSize nx ny ≡ false → andThen (setAnswer nx ny bytes) next ≡ refused 2 0
-    bad-size e = rw e
-
-    pub bad-length : validSize nx ny ≡ true → validLength (length bytes) ≡ false → andThen (setAnswer nx ny bytes) next ≡ refused 1 0
-    bad-length e f = rw (e, f)
-
-  pub good-entry : validSize nx ny ≡ true → validLength (length bytes) ≡ true → setAnswer nx ny bytes ≡ setOf nx ny 0 bytes (recordCount bytes)
-  good-entry e f = rw (e, f)
+module _ (caller : Caller) (nx ny : ℕ) (bytes : List ℕ) where
+  pub good-entry : validSize (mostSideOf caller) nx ny ≡ true → validLength (length bytes) ≡ true → tooMany caller (length bytes) ≡ false → setAnswer caller nx ny bytes ≡ setOf nx ny 0 bytes (recordCount bytes)
+  good-entry e f g = rw (e, f, g)
 
   -- an accepted set passed the checks at entry
   pub record Entered (ps : List Particle) : Type 0 where
-    pub size : validSize nx ny ≡ true
+    pub size : validSize (mostSideOf caller) nx ny ≡ true
     pub whole : validLength (length bytes) ≡ true
+    pub few : tooMany caller (length bytes) ≡ false
     pub set : setOf nx ny 0 bytes (recordCount bytes) ≡ result ps
 
-  pub entered : {ps : List Particle} → setAnswer nx ny bytes ≡ result ps → Entered ps
+  pub entered : {ps : List Particle} → setAnswer caller nx ny bytes ≡ result ps → Entered ps
   entered e =
-      let a = passed (not (validSize nx ny)) 2 0 _ e in
+      let a = passed (not (validSize (mostSideOf caller) nx ny)) 2 0 _ e in
       let b = passed (not (validLength (length bytes))) 1 0 _ (a .1) in
-      record { size = not-false (validSize nx ny) (a .0); whole = not-false (validLength (length bytes)) (b .0); set = b .1 }
+      let c = passed (tooMany caller (length bytes)) 3 0 _ (b .1) in
+      record {
+        size = not-false (validSize (mostSideOf caller) nx ny) (a .0);
+        whole = not-false (validLength (length bytes)) (b .0);
+        few = c .0;
+        set = c .1;
+      }
+
+-- at the bench no length that passes 1 is too many records
+pub bench-few : (n : ℕ) → validLength n ≡ true → tooMany Bench n ≡ false
+bench-few n e = le-ltb mostRecords (n / recordLength) (length-limits n e .count)
+
+-- what a caller is let in with, the bench is too
+pub bench-size : (c : Caller) (nx ny : ℕ) → validSize (mostSideOf c) nx ny ≡ true → validSize (mostSideOf Bench) nx ny ≡ true
+bench-size c nx ny e =
+    let s = size-limits c nx ny e in
+    sides-valid (record { x-least = s .x-least; x-most = s .x-most; y-least = s .y-least; y-most = s .y-most })
+
+-- within the caller's limits, sizes pass both tests or neither
+pub same-size : (c : Caller) (nx ny : ℕ) → nx ≤ mostSideOf c → ny ≤ mostSideOf c → validSize (mostSideOf c) nx ny ≡ validSize (mostSideOf Bench) nx ny
+same-size c nx ny x y = ap₂ (λ a b. (leb leastSide nx && a) && (leb leastSide ny && b)) (same-side c nx x) (same-side c ny y)
+
+pub bench-accepts : (c : Caller) (nx ny : ℕ) (bytes : List ℕ) {ps : List Particle} → setAnswer c nx ny bytes ≡ result ps → setAnswer Bench nx ny bytes ≡ result ps
+bench-accepts c nx ny bytes e =
+    let n = entered c nx ny bytes e in
+    good-entry Bench nx ny bytes (bench-size c nx ny (n .size)) (n .whole) (bench-few (length bytes) (n .whole)) ∙ n .set

@@ -1,6 +1,6 @@
 -- A refused set: the refusal names the first record that breaks a limit, and the first limit that it breaks.
 --     refused-means      of the records alone
---     refused-set        of the operation: 2, 1, or a record's limit
+--     refused-set        of the operation: 2, 1, 3, or a record's limit
 -- Assumes nothing.
 use mathlib.Core.Path.{_≡_, refl, sym, ap, _∙_, subst}
 use mathlib.Core.Bool.{Bool, true, false, not}
@@ -11,13 +11,16 @@ use native.Mathlib.Nat.{add-assoc, add-zero, zero-add}
 use native.Mathlib.Omega.{arith}
 use lib.Dec.{eqb}
 use lib.ListN.{length}
+use borrow.Author.Tests.{ltb-true}
 use Rattle.refusal.specs.Refused.{Answer, result, refused, refuseIf, andThen}
 use Rattle.refusal.proofs.Answers.{same-result, not-result, not-refused}
+use Rattle.limits.specs.declared.Caller.{Caller}
+use Rattle.limits.specs.Limits.{mostSideOf, mostRecordsOf}
 use Rattle.particle.specs.declared.Particle.{Particle}
 use Rattle.particle.specs.Layout.{recordLength}
 use Rattle.particle.specs.Record.{particleOf, lowestVelocity, lowestAffine, readParticle, readAnswer}
 use Rattle.apic.specs.Totals.{totalMass}
-use Rattle.particles.specs.Set.{validSize, validLength, recordAt, recordCount, checkedParticle, setFrom, setOf, setAnswer}
+use Rattle.particles.specs.Set.{validSize, validLength, recordAt, recordCount, checkedParticle, setFrom, setOf, tooMany, setAnswer}
 use Rattle.particles.specs.Meaning.{leastAfter, limitsOn, FirstBroken, here, later, Broken, Refuses}
 use Rattle.particles.proofs.Checks.{length-limits, record-long, read-long}
 
@@ -167,8 +170,8 @@ module _ (nx ny start : ℕ) (bytes : List ℕ) where
 
 -- ---- the operation
 
-pub refused-set : (nx ny : ℕ) (bytes : List ℕ) {n k : ℕ} → setAnswer nx ny bytes ≡ refused n k → Refuses nx ny bytes n k
-refused-set nx ny bytes {n} {k} e = size (validSize nx ny) refl e
+pub refused-set : (caller : Caller) (nx ny : ℕ) (bytes : List ℕ) {n k : ℕ} → setAnswer caller nx ny bytes ≡ refused n k → Refuses caller nx ny bytes n k
+refused-set caller nx ny bytes {n} {k} e = size (validSize (mostSideOf caller) nx ny) refl e
   where
     walk : Answer (List Particle)
     walk = setOf nx ny 0 bytes (recordCount bytes)
@@ -179,10 +182,14 @@ refused-set nx ny bytes {n} {k} e = size (validSize nx ny) refl e
         room : recordLength * (length bytes / recordLength) ≡ length bytes → 0 + recordLength * (length bytes / recordLength) ≤ length bytes
         room g = omega arith
 
-    whole : (b : Bool) → validLength (length bytes) ≡ b → refuseIf (not b) 1 0 walk ≡ refused n k → Refuses nx ny bytes n k
-    whole false g e = inr (inl (sym (same-number e), same-place e, g))
-    whole true g e = inr (inr (refused-means nx ny 0 bytes (recordCount bytes) n k (all g) e))
+    few : validLength (length bytes) ≡ true → (b : Bool) → tooMany caller (length bytes) ≡ b → refuseIf b 3 0 walk ≡ refused n k → Refuses caller nx ny bytes n k
+    few h true g e = inr (inr (inl (sym (same-number e), same-place e, ltb-true (mostRecordsOf caller) (recordCount bytes) g)))
+    few h false g e = inr (inr (inr (refused-means nx ny 0 bytes (recordCount bytes) n k (all h) e)))
 
-    size : (b : Bool) → validSize nx ny ≡ b → refuseIf (not b) 2 0 (refuseIf (not (validLength (length bytes))) 1 0 walk) ≡ refused n k → Refuses nx ny bytes n k
+    whole : (b : Bool) → validLength (length bytes) ≡ b → refuseIf (not b) 1 0 (refuseIf (tooMany caller (length bytes)) 3 0 walk) ≡ refused n k → Refuses caller nx ny bytes n k
+    whole false g e = inr (inl (sym (same-number e), same-place e, g))
+    whole true g e = few g (tooMany caller (length bytes)) refl e
+
+    size : (b : Bool) → validSize (mostSideOf caller) nx ny ≡ b → refuseIf (not b) 2 0 (refuseIf (not (validLength (length bytes))) 1 0 (refuseIf (tooMany caller (length bytes)) 3 0 walk)) ≡ refused n k → Refuses caller nx ny bytes n k
     size false g e = inl (sym (same-number e), same-place e, g)
     size true g e = whole (validLength (length bytes)) refl e

@@ -8,7 +8,8 @@ use Prim.Native.Nat.{ℕ, suc, _+_, _<_}
 use lib.Dec.{eqb, ltb}
 use lib.ListN.{length}
 use Rattle.refusal.specs.Refused.{result}
-use Rattle.limits.specs.Limits.{mostTotalMass}
+use Rattle.limits.specs.declared.Caller.{Caller}
+use Rattle.limits.specs.Limits.{mostTotalMass, mostSideOf, mostRecordsOf}
 use Rattle.particle.specs.declared.Particle.{Particle}
 use Rattle.particle.specs.Record.{particleOf, lowestVelocity, lowestAffine}
 use Rattle.apic.specs.Totals.{totalMass}
@@ -43,8 +44,9 @@ pub record Broken (nx ny start : ℕ) (bytes : List ℕ) (count n k : ℕ) : Typ
   pub set : setOf nx ny start bytes k ≡ result before
   pub first : FirstBroken n (limitsOn nx ny (leastAfter 0 before) (totalMass before) (particleOf (recordAt start bytes k)))
 
--- what a refused call tells: 2 the sizes, 1 the length, both at place 0; or a limit of record k
-abbrev pub Refuses : ℕ → ℕ → List ℕ → ℕ → ℕ → Type 0
-Refuses nx ny bytes n k =
-    ((n ≡ 2) × (k ≡ 0) × (validSize nx ny ≡ false))
-    ⊎ (((n ≡ 1) × (k ≡ 0) × (validLength (length bytes) ≡ false)) ⊎ Broken nx ny 0 bytes (recordCount bytes) n k)
+-- what a refused call tells: 2 the sizes, 1 the length, 3 the number of records, each at place 0; or a limit of record k
+abbrev pub Refuses : Caller → ℕ → ℕ → List ℕ → ℕ → ℕ → Type 0
+Refuses caller nx ny bytes n k =
+    ((n ≡ 2) × (k ≡ 0) × (validSize (mostSideOf caller) nx ny ≡ false))
+    ⊎ (((n ≡ 1) × (k ≡ 0) × (validLength (length bytes) ≡ false))
+    ⊎ (((n ≡ 3) × (k ≡ 0) × (mostRecordsOf caller < recordCount bytes)) ⊎ Broken nx ny 0 bytes (recordCount bytes) n k))

@@ -1,4 +1,4 @@
--- Document 01, "Check a set": the walk over the records of a set, and the operation's answer.
+-- Documents 01, "Check a set", and 02, Paper 9: the walk over the records of a set, and the operation's answer to a caller.
 -- A set's records lie one after the other from a byte `start` on. Assumes nothing.
 use mathlib.Core.Bool.{Bool, not, _&&_}
 use mathlib.Core.List.{List, [], _∷_, _++_, map}
@@ -6,7 +6,8 @@ use Prim.Native.Nat.{ℕ, zero, suc, _+_, _*_, _/_, _%_, _<_}
 use lib.Dec.{leb, ltb, eqb}
 use lib.ListN.{length, getD, take, drop}
 use Rattle.refusal.specs.Refused.{Answer, result, refusedBy, refuseIf, andThen}
-use Rattle.limits.specs.Limits.{leastSide, mostSide, mostRecords, mostTotalMass}
+use Rattle.limits.specs.declared.Caller.{Caller}
+use Rattle.limits.specs.Limits.{leastSide, mostRecords, mostTotalMass, mostSideOf, mostRecordsOf}
 use Rattle.arith.specs.Sums.{upTo}
 use Rattle.spline.specs.Spline.{onAxis}
 use Rattle.particle.specs.declared.Particle.{Particle}
@@ -55,9 +56,9 @@ Bytes records = (i : ℕ) → getD records i 0 < 256
 
 -- ---- the operation
 
--- Nx and Ny are 4 to 48
-abbrev pub validSize : ℕ → ℕ → Bool
-validSize nx ny = (leb leastSide nx && leb nx mostSide) && (leb leastSide ny && leb ny mostSide)
+-- Nx and Ny are from 4 to this number
+abbrev pub validSize : ℕ → ℕ → ℕ → Bool
+validSize most nx ny = (leb leastSide nx && leb nx most) && (leb leastSide ny && leb ny most)
 
 -- the length in bytes of the largest set: 61,440
 abbrev pub setLength : ℕ
@@ -77,13 +78,20 @@ particleIn bytes k = particleOf (recordAt 0 bytes k)
 unfoldable pub particlesIn : List ℕ → List Particle
 particlesIn bytes = map (λ k. particleIn bytes k) (upTo (recordCount bytes))
 
-abbrev pub setAnswer : ℕ → ℕ → List ℕ → Answer (List Particle)
-setAnswer nx ny bytes =
-    refuseIf (not (validSize nx ny)) 2 0 (refuseIf (not (validLength (length bytes))) 1 0 (setOf nx ny 0 bytes (recordCount bytes)))
+-- bytes of so many whole records are too many records for a caller
+abbrev pub tooMany : Caller → ℕ → Bool
+tooMany caller n = ltb (mostRecordsOf caller) (n / recordLength)
+
+-- 2 the caller's sizes; 1; 3 the caller's number of records, which no length that passes 1 breaks at the bench; the set
+abbrev pub setAnswer : Caller → ℕ → ℕ → List ℕ → Answer (List Particle)
+setAnswer caller nx ny bytes =
+    refuseIf (not (validSize (mostSideOf caller) nx ny)) 2 0
+    (refuseIf (not (validLength (length bytes))) 1 0
+    (refuseIf (tooMany caller (length bytes)) 3 0 (setOf nx ny 0 bytes (recordCount bytes))))
 
 -- "Check a set": the result is the number of records
-abbrev pub checkAnswer : ℕ → ℕ → List ℕ → Answer ℕ
-checkAnswer nx ny bytes = andThen (setAnswer nx ny bytes) (λ ps. result (length ps))
+abbrev pub checkAnswer : Caller → ℕ → ℕ → List ℕ → Answer ℕ
+checkAnswer caller nx ny bytes = andThen (setAnswer caller nx ny bytes) (λ ps. result (length ps))
 
 abbrev pub toldChecked : Checked → Answer ℕ
 toldChecked (checked.Records n) = result n

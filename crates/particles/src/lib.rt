@@ -1,7 +1,6 @@
 // A particle set: its records checked one after the other.
 use limits::LEAST_SIDE;
 use limits::MOST_RECORDS;
-use limits::MOST_SIDE;
 use limits::MOST_TOTAL_MASS;
 use particle::Particle;
 use particle::RECORD_LENGTH;
@@ -16,7 +15,7 @@ ghost use Rattle.limits.specs.Limits.{leastSide, mostSide, mostRecords};
 ghost use Rattle.particle.specs.Layout.{recordLength};
 ghost use Rattle.spline.specs.Spline.{onAxis};
 ghost use Rattle.apic.specs.Limits.{SizeLimits};
-ghost use Rattle.particles.specs.Set.{checkAnswer, toldChecked, validSize, validLength};
+ghost use Rattle.particles.specs.Set.{toldChecked, validSize, validLength};
 ghost use Rattle.particles.specs.Walk.{toldEntered, checkParticle, checkRecord, counted};
 
 // The length in bytes of the largest set: 61,440.
@@ -106,17 +105,17 @@ pub fn check(nx: usize, ny: usize, bytes: &[u8], start: usize, count: usize) -> 
     Checked::Records(count)
 }
 
-// Whether Nx and Ny are 4 to 48. Every operation on a grid begins with it.
-pub fn size_is_valid(nx: usize, ny: usize) -> bool
-    ensures { λ r. ⌜ r ≡ validSize nx ny ⌝ }
+// Whether Nx and Ny are from 4 to `most`, a caller's limit. Every operation on a grid begins with it.
+pub fn size_is_valid(most: usize, nx: usize, ny: usize) -> bool
+    ensures { λ r. ⌜ r ≡ validSize most nx ny ⌝ }
 {
-    is_side(nx) && is_side(ny)
+    is_side(most, nx) && is_side(most, ny)
 }
 
-fn is_side(n: usize) -> bool
-    ensures { λ r. ⌜ r ≡ leb leastSide n && leb n mostSide ⌝ }
+fn is_side(most: usize, n: usize) -> bool
+    ensures { λ r. ⌜ r ≡ leb leastSide n && leb n most ⌝ }
 {
-    LEAST_SIDE <= n && n <= MOST_SIDE
+    LEAST_SIDE <= n && n <= most
 }
 
 // Whether as many bytes are whole records, and not too many. Every operation on a set begins with it.
@@ -124,17 +123,4 @@ pub fn length_is_valid(bytes: usize) -> bool
     ensures { λ r. ⌜ r ≡ validLength bytes ⌝ }
 {
     bytes % RECORD_LENGTH == 0 && bytes <= SET_LENGTH
-}
-
-// Check a set: the number of its records.
-pub fn check_set(nx: usize, ny: usize, records: &[u8]) -> Checked
-    ensures { λ r. ⌜ toldChecked r ≡ checkAnswer nx ny (now (records .entry)) ⌝ }
-{
-    if !size_is_valid(nx, ny) {
-        return Checked::Refused(Refusal::GridSize);
-    }
-    if !length_is_valid(records.len()) {
-        return Checked::Refused(Refusal::Length);
-    }
-    check(nx, ny, records, 0, records.len() / RECORD_LENGTH)
 }

@@ -16,6 +16,7 @@ use lib.IntN.{ℤ, pos}
 use lib.ListN.{length, take, drop, length-append, length-drop, length-replicate, drop-of-length-le}
 use lib.Seq.{length-take-le, take-all, drop-at}
 use Rattle.refusal.specs.Refused.{Answer, either}
+use Rattle.limits.specs.declared.Caller.the-variants.{Bench}
 use Rattle.apic.specs.Limits.{SizeLimits}
 use Rattle.particles.proofs.Checks.{size-limits, entered}
 use Rattle.simulation.specs.declared.Ran.{Ran}
@@ -82,7 +83,7 @@ module _ (bytes : List ℕ) where
   abbrev gridsBy : Grids → Answer Header → Grids
   gridsBy grids f = either f (λ h. withFirst (nodeCount h) (runOf h bytes (firstNodes (nodeCount h) grids) .grids) grids) (λ number place. grids)
 
-  module _ {f : Answer Header} (e : fileAnswer bytes ≡ f) where
+  module _ {f : Answer Header} (e : fileAnswer Bench bytes ≡ f) where
     pub text-by : programText bytes ≡ textBy f
     unfolding programText
     text-by = ap textBy e
@@ -116,10 +117,10 @@ module _ (bytes : List ℕ) where
 
 module _ {h : Header} {bytes mass : List ℕ} {x y : List ℤ} {text : List ℕ} (a : AcceptedFile h bytes mass x y text) where
   pub file-sizes : SizeLimits (h .nx) (h .ny)
-  file-sizes = size-limits (h .nx) (h .ny) (header-held bytes (file-held bytes h (a .file) .header) .valid .size)
+  file-sizes = size-limits Bench (h .nx) (h .ny) (header-held Bench bytes (file-held Bench bytes h (a .file) .header) .valid .size)
 
   pub file-long : headerLength ≤ length bytes
-  file-long = header-held bytes (file-held bytes h (a .file) .header) .long
+  file-long = header-held Bench bytes (file-held Bench bytes h (a .file) .header) .long
 
   first-lengths : SameLengths (firstNodes (nodeCount h) (gridsOf mass x y)) (zeroGrids h)
   first-lengths =
@@ -136,20 +137,20 @@ module _ {h : Header} {bytes mass : List ℕ} {x y : List ℤ} {text : List ℕ}
 
     left : Held (h .nx) (h .ny) records
     left =
-        let before = file-held bytes h (a .file) in
+        let before = file-held Bench bytes h (a .file) in
         let held : Held (h .nx) (h .ny) (recordsIn bytes) = record { particles = before .particles; set = before .set } in
         rw (ran .records) (run-kept (settingsFor h) (h .steps) (recordsIn bytes) (firstNodes (nodeCount h) (gridsOf mass x y)) held)
 
     pub report-ready : Reportable h (lent (given-back bytes records)) text
     report-ready =
         subst (λ l. Reportable h l text) (sym (lent-back bytes records file-long))
-        (record { totals = kept-totals left; whole = entered (h .nx) (h .ny) records (left .set) .whole; room = a .room })
+        (record { totals = kept-totals left; whole = entered Bench (h .nx) (h .ny) records (left .set) .whole; room = a .room })
 
     module _ {n : ℕ} {text′ : List ℕ} (b : Begins (reportOf (toldRan r) (lent (given-back bytes records))) text n text′) where
       pub accepted-prints : Prints bytes (gridsOf mass x y) text (record { length = n; refused = false }) (given-back bytes records) (gridsOf mass′ x′ y′) text′
       accepted-prints =
           let grids = gridsOf mass x y in
-          let law = any-grids (settingsFor h) (h .steps) (recordsIn bytes) (firstNodes (nodeCount h) grids) (zeroGrids h) first-lengths in
+          let law = any-grids Bench (settingsFor h) (h .steps) (recordsIn bytes) (firstNodes (nodeCount h) grids) (zeroGrids h) first-lengths in
           prints bytes (a .file) refl b
           (ap₂ reportOf (ran .answer ∙ law .0) (lent-back bytes records file-long ∙ ran .records ∙ law .1))
           (back-is bytes records ∙ ap (λ l. take headerLength bytes ++ l) (ran .records ∙ law .1))

@@ -3,6 +3,7 @@ use Prim.Native.Nat.{ℕ, zero, suc}
 use mathlib.Core.Path.{_≡_, refl, subst}
 use mathlib.Core.List.{List}
 use Rattle.refusal.specs.Refused.{Answer, result, refused, either}
+use Rattle.limits.specs.declared.Caller.{Caller}
 use Rattle.particle.specs.declared.Particle.{Particle}
 use Rattle.settings.specs.declared.Settings.{Settings}
 use Rattle.apic.specs.Step.{Grids}
@@ -18,8 +19,8 @@ unfolding runBy
 same-steps s zero records ps g h = (refl, refl)
 same-steps s (suc n) records ps g h = (refl, refl)
 
-module _ (s : Settings) (steps : ℕ) (records : List ℕ) where
-  same-entry : (g h : Grids) → SameLengths g h → runEntry s steps records g ≡ runEntry s steps records h
+module _ (caller : Caller) (s : Settings) (steps : ℕ) (records : List ℕ) where
+  same-entry : (g h : Grids) → SameLengths g h → runEntry caller s steps records g ≡ runEntry caller s steps records h
   unfolding runEntry
   same-entry g h same = rw (same .mass, same .x, same .y)
 
@@ -34,6 +35,6 @@ module _ (s : Settings) (steps : ℕ) (records : List ℕ) where
 
 pub any-grids : AnyGrids
 unfolding runAfter
-any-grids s steps records g h same =
-    subst (λ a. SameRun (by s steps records g (runEntry s steps records g)) (by s steps records h a))
-    (same-entry s steps records g h same) (same-after s steps records g h (runEntry s steps records g))
+any-grids caller s steps records g h same =
+    subst (λ a. SameRun (by caller s steps records g (runEntry caller s steps records g)) (by caller s steps records h a))
+    (same-entry caller s steps records g h same) (same-after caller s steps records g h (runEntry caller s steps records g))

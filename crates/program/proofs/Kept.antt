@@ -6,6 +6,7 @@ use Prim.Native.Nat.{ℕ, zero, suc}
 use mathlib.Core.Path.{_≡_, refl, sym, ap, _∙_, subst}
 use mathlib.Core.List.{List}
 use Rattle.refusal.specs.Refused.{Answer, result, refused, andThen}
+use Rattle.limits.specs.declared.Caller.the-variants.{Bench}
 use Rattle.spline.specs.Spline.{axisWeight, D}
 use Rattle.particle.specs.declared.Particle.{Particle}
 use Rattle.apic.specs.Limits.{SetLimits}
@@ -23,12 +24,12 @@ use Rattle.simulation.proofs.Calls.{ready-run}
 -- the particles of records that are accepted
 pub record Held (nx ny : ℕ) (records : List ℕ) : Type 0 where
   pub particles : List Particle
-  pub set : setAnswer nx ny records ≡ result particles
+  pub set : setAnswer Bench nx ny records ≡ result particles
 
 pub held-particles : {nx ny : ℕ} {records : List ℕ} (h : Held nx ny records) → particlesIn records ≡ h .particles
 held-particles {nx} {ny} {records} h = particlesIn-accepted nx ny records (h .set)
 
-pub kept-totals : {nx ny : ℕ} {records : List ℕ} → Held nx ny records → totalsAnswer nx ny records ≡ result (totalsOf (particlesIn records))
+pub kept-totals : {nx ny : ℕ} {records : List ℕ} → Held nx ny records → totalsAnswer Bench nx ny records ≡ result (totalsOf (particlesIn records))
 kept-totals h = ap (λ a. andThen a (λ ps. result (totalsOf ps))) (h .set) ∙ ap (λ ps. result (totalsOf ps)) (sym (held-particles h))
 
 module _ (s : Settings) where
@@ -37,7 +38,7 @@ module _ (s : Settings) where
 
   -- the records hold these particles
   abbrev Holds : List ℕ → List Particle → Type 0
-  Holds records ps = setAnswer (s .nx) (s .ny) records ≡ result ps
+  Holds records ps = setAnswer Bench (s .nx) (s .ny) records ≡ result ps
 
   next-kept : (records : List ℕ) {ps qs : List Particle} → Holds records ps → stepOf s ps ≡ result qs → Holds (recordsOf qs) qs
   next-kept records {ps} {qs} e f =
@@ -57,12 +58,12 @@ module _ (s : Settings) where
       go further (result qs) f = rw f (further qs (next-kept records e f))
       go further (refused k p) f = rw f (record { particles = ps; set = e })
 
-  pub run-kept : (steps : ℕ) (records : List ℕ) (grids : Grids) → Kept records → Kept (runAfter s steps records grids .records)
+  pub run-kept : (steps : ℕ) (records : List ℕ) (grids : Grids) → Kept records → Kept (runAfter Bench s steps records grids .records)
   unfolding runAfter
-  run-kept steps records grids h = go (runEntry s steps records grids) refl
+  run-kept steps records grids h = go (runEntry Bench s steps records grids) refl
     where
-      go : (a : Answer (List Particle)) → runEntry s steps records grids ≡ a → Kept (runAfter s steps records grids .records)
+      go : (a : Answer (List Particle)) → runEntry Bench s steps records grids ≡ a → Kept (runAfter Bench s steps records grids .records)
       go (result ps) e =
-          let same : h .particles ≡ ps = sym (held-particles h) ∙ ready-run s records steps grids e .holds in
+          let same : h .particles ≡ ps = sym (held-particles h) ∙ ready-run Bench s records steps grids e .holds in
           rw e (steps-kept steps records ps grids (h .set ∙ ap result same))
       go (refused n k) e = rw e h

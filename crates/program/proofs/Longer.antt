@@ -10,6 +10,7 @@ use lib.ListN.{length, take}
 use lib.Seq.{take-all, take-take, length-take-le}
 use Rattle.refusal.specs.Refused.{Answer, result, refused, andThen, either}
 use Rattle.limits.specs.Limits.{mostRecords}
+use Rattle.limits.specs.declared.Caller.the-variants.{Bench}
 use Rattle.particle.specs.Layout.{recordLength}
 use Rattle.bath_file.specs.declared.Header.{Header}
 use Rattle.bath_file.specs.Layout.{headerLength}
@@ -22,22 +23,22 @@ use Rattle.program.proofs.Files.{text-by}
 
 -- two long inputs with the same first bytes have the same header
 module _ (bytes bytes′ : List ℕ) (l : headerLength ≤ length bytes) (l′ : headerLength ≤ length bytes′) where
-  same-header : take headerLength bytes ≡ take headerLength bytes′ → headerAnswer bytes ≡ headerAnswer bytes′
+  same-header : take headerLength bytes ≡ take headerLength bytes′ → headerAnswer Bench bytes ≡ headerAnswer Bench bytes′
   unfolding headerAnswer
   same-header e = rw (le-ltb (length bytes) headerLength l, le-ltb (length bytes′) headerLength l′, e)
 
 -- no header counts as many records as so many bytes and more would hold
-too-long : (bytes : List ℕ) (h : Header) → roomForFile ≤ length bytes → headerAnswer bytes ≡ result h → recordsAnswer h bytes ≡ refused 1 0
-too-long bytes h l e = wrong-records h bytes (λ n. never (length bytes) (h .count) l (header-held bytes e .valid .count-to) n)
+too-long : (bytes : List ℕ) (h : Header) → roomForFile ≤ length bytes → headerAnswer Bench bytes ≡ result h → recordsAnswer h bytes ≡ refused 1 0
+too-long bytes h l e = wrong-records h bytes (λ n. never (length bytes) (h .count) l (header-held Bench bytes e .valid .count-to) n)
   where
     never : (n c : ℕ) → roomForFile ≤ n → c ≤ mostRecords → n ≡ headerLength + recordLength * c → ⊥
     never n c a b d = omega arith
 
 -- the refusal of a file that is too long is that of its header, or of its length
-file-too-long : (bytes : List ℕ) → roomForFile ≤ length bytes → fileAnswer bytes ≡ andThen (headerAnswer bytes) (λ h. refused 1 0)
-file-too-long bytes l = go (headerAnswer bytes) refl
+file-too-long : (bytes : List ℕ) → roomForFile ≤ length bytes → fileAnswer Bench bytes ≡ andThen (headerAnswer Bench bytes) (λ h. refused 1 0)
+file-too-long bytes l = go (headerAnswer Bench bytes) refl
   where
-    go : (a : Answer Header) → headerAnswer bytes ≡ a → andThen a (λ h. recordsAnswer h bytes) ≡ andThen a (λ h. refused 1 0)
+    go : (a : Answer Header) → headerAnswer Bench bytes ≡ a → andThen a (λ h. recordsAnswer h bytes) ≡ andThen a (λ h. refused 1 0)
     go (result h) e = too-long bytes h l e
     go (refused n k) e = refl
 
@@ -55,7 +56,7 @@ longer bytes l =
     let m : roomForFile ≤ length first = omega (arith, length-take-le roomForFile bytes l) in
     let h = same-header bytes first (omega arith) (omega arith) (sym (take-take headerLength roomForFile bytes (omega arith))) in
     text-by bytes (file-too-long bytes l ∙ ap (λ a. andThen a (λ h. refused 1 0)) h)
-    ∙ not-run (headerAnswer first) _ _
+    ∙ not-run (headerAnswer Bench first) _ _
     ∙ sym (text-by first (file-too-long first m))
 
 pub longer-input : LongerInput

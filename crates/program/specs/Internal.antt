@@ -5,6 +5,7 @@ use mathlib.Core.List.{List}
 use lib.IntN.{ℤ}
 use lib.ListN.{length}
 use Rattle.refusal.specs.Refused.{result}
+use Rattle.limits.specs.declared.Caller.the-variants.{Bench}
 use Rattle.apic.specs.Step.{Grids}
 use Rattle.bath_file.specs.declared.Header.{Header}
 use Rattle.bath_file.specs.File.{fileAnswer}
@@ -15,7 +16,7 @@ use Rattle.program.specs.Program.{printed, textAfter, fileAfter, gridsAf
 
 -- a file that was accepted, and room for its run and its report
 pub record AcceptedFile (h : Header) (bytes mass : List ℕ) (x y : List ℤ) (text : List ℕ) : Type 0 where
-  pub file : fileAnswer bytes ≡ result h
+  pub file : fileAnswer Bench bytes ≡ result h
   pub grids : RunRoom mass x y
   pub room : reportLength ≤ length text
 

@@ -6,6 +6,7 @@ use Prim.Native.Nat.{ℕ}
 use mathlib.Core.Path.{_≡_}
 use mathlib.Core.List.{List}
 use lib.ListN.{length, take}
+use Rattle.limits.specs.declared.Caller.{Caller}
 use Rattle.settings.specs.declared.Settings.{Settings}
 use Rattle.apic.specs.Step.{Grids}
 use Rattle.simulation.specs.Run.{runAfter}
@@ -20,10 +21,10 @@ pub record SameLengths (g h : Grids) : Type 0 where
 -- the answer and the records of a run are the same, whatever grids of the same lengths hold
 abbrev pub AnyGrids : Type 0
 AnyGrids =
-    (s : Settings) (steps : ℕ) (records : List ℕ) (g h : Grids) →
+    (caller : Caller) (s : Settings) (steps : ℕ) (records : List ℕ) (g h : Grids) →
     SameLengths g h →
-    (runAfter s steps records g .answer ≡ runAfter s steps records h .answer)
-    × (runAfter s steps records g .records ≡ runAfter s steps records h .records)
+    (runAfter caller s steps records g .answer ≡ runAfter caller s steps records h .answer)
+    × (runAfter caller s steps records g .records ≡ runAfter caller s steps records h .records)
 
 -- whoever reads as many bytes of an input knows what the program prints of all of it
 abbrev pub LongerInput : Type 0

@@ -11,6 +11,7 @@ use mathlib.Core.List.{List, _++_}
 use lib.IntN.{pos}
 use lib.ListN.{length, replicate, take, drop}
 use Rattle.refusal.specs.Refused.{Answer, either}
+use Rattle.limits.specs.declared.Caller.the-variants.{Bench}
 use Rattle.apic.specs.Step.{Grids, gridsOf}
 use Rattle.simulation.specs.Step.{After}
 use Rattle.simulation.specs.Run.{Completion, runAfter}
@@ -30,7 +31,7 @@ recordsIn bytes = drop headerLength bytes
 
 -- the run that a file asks for
 abbrev pub runOf : Header → List ℕ → Grids → After Completion
-runOf h bytes grids = runAfter (settingsFor h) (h .steps) (recordsIn bytes) grids
+runOf h bytes grids = runAfter Bench (settingsFor h) (h .steps) (recordsIn bytes) grids
 
 -- grids of its size with every node zero
 abbrev pub zeroGrids : Header → Grids
@@ -42,7 +43,7 @@ runReport bytes h = let ran = runOf h bytes (zeroGrids h) in reportOf (ran .answ
 
 -- "A refused file prints only `refused R at P`. Otherwise" the report
 unfoldable pub programText : List ℕ → List ℕ
-programText bytes = either (fileAnswer bytes) (runReport bytes) refusedLine
+programText bytes = either (fileAnswer Bench bytes) (runReport bytes) refusedLine
 
 -- ---- what the caller of the function sees
 
@@ -51,7 +52,7 @@ isRefused a = either a (λ _. false) (λ number place. true)
 
 -- the text's length, and whether the file was refused
 unfoldable pub printed : List ℕ → Printed
-printed bytes = record { length = length (programText bytes); refused = isRefused (fileAnswer bytes) }
+printed bytes = record { length = length (programText bytes); refused = isRefused (fileAnswer Bench bytes) }
 
 -- the text, and behind it what was there
 unfoldable pub textAfter : List ℕ → List ℕ → List ℕ
@@ -60,13 +61,13 @@ textAfter bytes text = programText bytes ++ drop (length (programText bytes)) te
 -- the same header, and the records that the run leaves; a refused file is as it was
 unfoldable pub fileAfter : List ℕ → List ℕ
 fileAfter bytes =
-    either (fileAnswer bytes)
+    either (fileAnswer Bench bytes)
     (λ h. take headerLength bytes ++ runOf h bytes (zeroGrids h) .records)
     (λ number place. bytes)
 
 -- the first Nx·Ny nodes are what the run leaves, and the others as they were, as are all of them where the file is refused
 unfoldable pub gridsAfter : List ℕ → Grids → Grids
 gridsAfter bytes grids =
-    either (fileAnswer bytes)
+    either (fileAnswer Bench bytes)
     (λ h. withFirst (nodeCount h) (runOf h bytes (firstNodes (nodeCount h) grids) .grids) grids)
     (λ number place. grids)

@@ -12,6 +12,7 @@ use Rattle.store.specs.Form.{validStore}
 use Rattle.store.specs.Operations.{returnAnswer}
 use Rattle.store.specs.Calls.{StoreCall, keep, return, forget}
 use Rattle.limits.proofs.Within.{both}
+use Rattle.limits.specs.declared.Caller.the-variants.{Bench}
 use Rattle.store.proofs.Calls.{every-call, Returns, return-passed}
 use Rattle.particles.specs.Set.{particlesIn}
 use Rattle.simulation.specs.Demand3.{Accepted, leavesAll, completesAll, completedSteps, Keeps}
@@ -32,7 +33,7 @@ kept-all (c ∷ cs) l v = kept-all cs (after c l) (kept-after c l v)
 -- ---- the records, where no return replaces them
 
 not-replaced : (c : StoreCall) (l : Lent) → returns (onStore c) l ≡ false → recordsAfter c l ≡ l .records
-not-replaced (keep name file) l n = refl
+not-replaced (keep caller name file) l n = refl
 not-replaced (return name buffer) l n = go (returnAnswer (l .store) name buffer) n
   where
     go : (a : Answer (List ℕ)) → accepted a ≡ false → either a recordsIn (λ n k. l .records) ≡ l .records
@@ -52,7 +53,7 @@ moved (onRecords c ∷ cs) l n = moved cs (after (onRecords c) l) (both true (no
 
 start-of : (store name file : List ℕ) → Returns store name file → Accepted (recordsIn file)
 start-of store name file r =
-    let f = file-held file (r .header) (r .accepts) in
+    let f = file-held Bench file (r .header) (r .accepts) in
     record {
       nx = r .header .nx;
       ny = r .header .ny;

@@ -34,7 +34,7 @@ recordsIn file = drop headerLength file
 
 -- a return that is not refused replaces the records by those of its file
 abbrev pub recordsAfter : StoreCall → Lent → List ℕ
-recordsAfter (keep name file) l = l .records
+recordsAfter (keep caller name file) l = l .records
 recordsAfter (return name buffer) l = either (returnAnswer (l .store) name buffer) recordsIn (λ n k. l .records)
 recordsAfter (forget name) l = l .records
 
@@ -49,7 +49,7 @@ afterAll (c ∷ cs) l = afterAll cs (after c l)
 -- ---- calls without a return that is not refused
 
 abbrev pub returns : MixedCall → Lent → Bool
-returns (onStore (keep name file)) l = false
+returns (onStore (keep caller name file)) l = false
 returns (onStore (return name buffer)) l = accepted (returnAnswer (l .store) name buffer)
 returns (onStore (forget name)) l = false
 returns (onRecords c) l = false

@@ -1,5 +1,6 @@
 // A step and a run of a particle set.
 use entry::Buffers;
+use limits::Caller;
 use packing::SET_NUMBERS;
 use particle::RECORD_LENGTH;
 use particles::Checked;
@@ -91,6 +92,7 @@ fn run_large(
 // As many steps as wanted, or until one is refused: the records then hold the last completed step, and the grids the masses
 // and updated velocities of the last step tried. A run refused at entry, and a run of no step, changes nothing.
 pub fn run(
+    caller: Caller,
     settings: Settings,
     steps: usize,
     records: &mut [u8],
@@ -98,10 +100,10 @@ pub fn run(
     px: &mut [i64],
     py: &mut [i64],
 ) -> Ran
-    ensures { λ r. ⌜ Sees (runAfter settings steps (now (records .entry)) (gridsOf (now (mass .entry)) (now (px .entry)) (now (py .entry)))) (toldRan r) (now (records .exit)) (now (mass .exit)) (now (px .exit)) (now (py .exit)) ⌝ }
+    ensures { λ r. ⌜ Sees (runAfter caller settings steps (now (records .entry)) (gridsOf (now (mass .entry)) (now (px .entry)) (now (py .entry)))) (toldRan r) (now (records .exit)) (now (mass .exit)) (now (px .exit)) (now (py .exit)) ⌝ }
 {
     let buffers = Buffers::Three(mass.len(), px.len(), py.len());
-    match entry::check(settings, buffers, steps, records) {
+    match entry::check(caller, settings, buffers, steps, records) {
         Checked::Refused(refusal) => return Ran::Stopped(0, refusal),
         Checked::Records(_) => {}
     }
@@ -117,15 +119,16 @@ pub fn run(
 
 // One step, which is a run of one: on success the records hold the moved particles; refused, they are as they were.
 pub fn step(
+    caller: Caller,
     settings: Settings,
     records: &mut [u8],
     mass: &mut [u64],
     px: &mut [i64],
     py: &mut [i64],
 ) -> Stepped
-    ensures { λ r. ⌜ Sees (stepAfter settings (now (records .entry)) (gridsOf (now (mass .entry)) (now (px .entry)) (now (py .entry)))) (toldStepped r) (now (records .exit)) (now (mass .exit)) (now (px .exit)) (now (py .exit)) ⌝ }
+    ensures { λ r. ⌜ Sees (stepAfter caller settings (now (records .entry)) (gridsOf (now (mass .entry)) (now (px .entry)) (now (py .entry)))) (toldStepped r) (now (records .exit)) (now (mass .exit)) (now (px .exit)) (now (py .exit)) ⌝ }
 {
-    match run(settings, 1, records, mass, px, py) {
+    match run(caller, settings, 1, records, mass, px, py) {
         Ran::Done(_) => Stepped::Done,
         Ran::Stopped(_, refusal) => Stepped::Refused(refusal),
     }

@@ -2,6 +2,7 @@
 use bath_file::FileRead;
 use bath_file::HEADER_LENGTH;
 use bath_file::Header;
+use limits::Caller;
 use program::MOST_NODES;
 use program::Printed;
 use refusal::Refusal;
@@ -69,7 +70,7 @@ pub fn run_file(
     ensures grids { λ _. ⌜ gridsOf (now (mass .exit)) (now (px .exit)) (now (py .exit))
         ≡ gridsAfter (now (file .entry)) (gridsOf (now (mass .entry)) (now (px .entry)) (now (py .entry))) ⌝ }
 {
-    match file_reader::read_file(file) {
+    match file_reader::read_file(Caller::Bench, file) {
         FileRead::Refused(refusal) => report_refusal(refusal, file, text),
         FileRead::Accepted(h) => run_accepted(h, file, mass, px, py, text),
     }

@@ -5,6 +5,7 @@ use mathlib.Core.Bool.{true}
 use mathlib.Core.List.{List, _++_}
 use lib.ListN.{length, drop}
 use Rattle.refusal.specs.Refused.{result}
+use Rattle.limits.specs.declared.Caller.the-variants.{Bench}
 use Rattle.particles.specs.Set.{validLength, particlesIn}
 use Rattle.totals.specs.declared.Totals.{Totals}
 use Rattle.totals.specs.Totals.{totalsOf, totalsAnswer}
@@ -17,7 +18,7 @@ use Rattle.report.specs.Report.{reportLength}
 
 -- records that a run left, and a buffer that every report fits
 pub record Reportable (h : Header) (records text : List ℕ) : Type 0 where
-  pub totals : totalsAnswer (h .nx) (h .ny) records ≡ result (totalsOf (particlesIn records))
+  pub totals : totalsAnswer Bench (h .nx) (h .ny) records ≡ result (totalsOf (particlesIn records))
   pub whole : validLength (length records) ≡ true
   pub room : reportLength ≤ length text
 

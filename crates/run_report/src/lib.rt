@@ -1,5 +1,6 @@
 // The report of a run, from the records that it left: their totals, and the text.
 use bath_file::Header;
+use limits::Caller;
 use report::Outcome;
 use report::Reported;
 use simulation::Ran;
@@ -10,6 +11,7 @@ ghost use mathlib.Core.Bool.{true};
 ghost use Prim.Native.Nat.{_≤_};
 ghost use lib.ListN.{length};
 ghost use Rattle.refusal.specs.Refused.{result};
+ghost use Rattle.limits.specs.declared.Caller.the-variants.{Bench};
 ghost use Rattle.particles.specs.Set.{validLength, particlesIn};
 ghost use Rattle.totals.specs.Totals.{totalsOf, totalsAnswer};
 ghost use Rattle.simulation.specs.Run.{toldRan};
@@ -19,10 +21,10 @@ ghost use Rattle.run_report.specs.Internal.{Reportable, outcomeOf, Begin
 
 // The totals of the records that a run left. `report_run` calls it with records that are accepted.
 fn totals_of(nx: usize, ny: usize, records: &[u8]) -> Totals
-    requires { ⌜ totalsAnswer nx ny (now records) ≡ result (totalsOf (particlesIn (now records))) ⌝ }
+    requires { ⌜ totalsAnswer Bench nx ny (now records) ≡ result (totalsOf (particlesIn (now records))) ⌝ }
     ensures { λ r. ⌜ r ≡ totalsOf (particlesIn (now (records .entry))) ⌝ }
 {
-    match totals_set::set_totals(nx, ny, records) {
+    match totals_set::set_totals(Caller::Bench, nx, ny, records) {
         Totalled::Sums(totals) => totals,
         Totalled::Refused(_) => Totals {
             mass: 0,

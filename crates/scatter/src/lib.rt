@@ -1,5 +1,6 @@
 // Particle-to-grid transfer of a set of records.
 use entry::Buffers;
+use limits::Caller;
 use particle::RECORD_LENGTH;
 use particles::Checked;
 use transfer::PART;
@@ -87,6 +88,7 @@ pub fn scatter_set(
 
 // What both scatters check first: sizes, records, and grid buffers of these lengths. `scatter` and crate adding_scatter call it.
 pub fn check_scatter(
+    caller: Caller,
     nx: usize,
     ny: usize,
     records: &[u8],
@@ -94,9 +96,10 @@ pub fn check_scatter(
     px: usize,
     py: usize,
 ) -> Checked
-    ensures { λ r. ⌜ toldChecked r ≡ andThen (scatterAnswer nx ny (now (records .entry)) mass px py) (λ ps. result (length ps)) ⌝ }
+    ensures { λ r. ⌜ toldChecked r ≡ andThen (scatterAnswer caller nx ny (now (records .entry)) mass px py) (λ ps. result (length ps)) ⌝ }
 {
     entry::check(
+        caller,
         settings::still(nx, ny),
         Buffers::Three(mass, px, py),
         0,
@@ -107,6 +110,7 @@ pub fn check_scatter(
 // Particle-to-grid transfer: the grids then hold the masses and momenta of the set, whatever they held.
 // A refused call leaves them as they were.
 pub fn scatter(
+    caller: Caller,
     nx: usize,
     ny: usize,
     records: &[u8],
@@ -114,9 +118,9 @@ pub fn scatter(
     px: &mut [i64],
     py: &mut [i64],
 ) -> Scattered
-    ensures { λ r. ⌜ ScatterIs nx ny (now (records .entry)) (now (mass .entry)) (now (px .entry)) (now (py .entry)) (toldScattered r) (now (mass .exit)) (now (px .exit)) (now (py .exit)) ⌝ }
+    ensures { λ r. ⌜ ScatterIs caller nx ny (now (records .entry)) (now (mass .entry)) (now (px .entry)) (now (py .entry)) (toldScattered r) (now (mass .exit)) (now (px .exit)) (now (py .exit)) ⌝ }
 {
-    match check_scatter(nx, ny, records, mass.len(), px.len(), py.len()) {
+    match check_scatter(caller, nx, ny, records, mass.len(), px.len(), py.len()) {
         Checked::Refused(refusal) => Scattered::Refused(refusal),
         Checked::Records(_) => {
             scatter_set(nx, ny, records, mass, px, py);

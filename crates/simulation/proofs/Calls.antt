@@ -16,6 +16,7 @@ use Prim.Native.Nat.{ℕ, zero, suc, _+_}
 use lib.ListN.{length, replicate, length-append, length-replicate}
 use lib.IntN.{ℤ}
 use Rattle.refusal.specs.Refused.{Answer, result, refused, either}
+use Rattle.limits.specs.declared.Caller.{Caller}
 use Rattle.spline.specs.Spline.{axisWeight, D}
 use Rattle.particle.specs.declared.Particle.{Particle}
 use Rattle.apic.specs.Limits.{SetLimits}
@@ -56,20 +57,20 @@ works-append {ss} {ts} {a} v w =
 
 -- ---- entry
 
-module _ (s : Settings) (records : List ℕ) where
-  ready-entry : (grids : Grids) (steps : ℕ) {ps : List Particle} → entryAnswer s (buffersOf grids) steps records ≡ result ps → Ready s records ps
+module _ (caller : Caller) (s : Settings) (records : List ℕ) where
+  ready-entry : (grids : Grids) (steps : ℕ) {ps : List Particle} → entryAnswer caller s (buffersOf grids) steps records ≡ result ps → Ready s records ps
   ready-entry grids steps e =
-      let a = accepted s (buffersOf grids) steps records e in
+      let a = accepted caller s (buffersOf grids) steps records e in
       record {
         holds = particlesIn-accepted (s .nx) (s .ny) records (a .set);
         limits = accepted-limits (s .nx) (s .ny) records (a .set);
       }
 
-  pub ready-step : (grids : Grids) {ps : List Particle} → stepEntry s records grids ≡ result ps → Ready s records ps
+  pub ready-step : (grids : Grids) {ps : List Particle} → stepEntry caller s records grids ≡ result ps → Ready s records ps
   unfolding stepEntry
   ready-step grids e = ready-entry grids 0 e
 
-  pub ready-run : (steps : ℕ) (grids : Grids) {ps : List Particle} → runEntry s steps records grids ≡ result ps → Ready s records ps
+  pub ready-run : (steps : ℕ) (grids : Grids) {ps : List Particle} → runEntry caller s steps records grids ≡ result ps → Ready s records ps
   unfolding runEntry
   ready-run steps grids e = ready-entry grids steps e
 
@@ -125,15 +126,15 @@ one-step s records ps h ready = go (stepOf s ps) refl
 
 pub call-works : (c : Call) (records : List ℕ) → Accepted records → Works (replicate (completes c records) (settingsOf c)) records (leaves c records)
 unfolding stepAfter runAfter
-call-works (step s grids) records h = go (stepEntry s records grids) refl
+call-works (step caller s grids) records h = go (stepEntry caller s records grids) refl
   where
-    go : (a : Answer (List Particle)) → stepEntry s records grids ≡ a → StepWorks s records (stepAfter s records grids)
-    go (result ps) e = rw e (one-step s records ps h (ready-step s records grids e))
+    go : (a : Answer (List Particle)) → stepEntry caller s records grids ≡ a → StepWorks s records (stepAfter caller s records grids)
+    go (result ps) e = rw e (one-step s records ps h (ready-step caller s records grids e))
     go (refused n k) e = rw e (works-none h)
-call-works (run s steps grids) records h = go (runEntry s steps records grids) refl
+call-works (run caller s steps grids) records h = go (runEntry caller s steps records grids) refl
   where
-    go : (a : Answer (List Particle)) → runEntry s steps records grids ≡ a → RunWorks s records (runAfter s steps records grids)
-    go (result ps) e = rw e (run-works s steps records ps grids h (ready-run s records steps grids e))
+    go : (a : Answer (List Particle)) → runEntry caller s steps records grids ≡ a → RunWorks s records (runAfter caller s steps records grids)
+    go (result ps) e = rw e (run-works s steps records ps grids h (ready-run caller s records steps grids e))
     go (refused n k) e = rw e (works-none h)
 
 pub calls-work : (calls : List Call) (start : List ℕ) → Accepted start → Works (settingsAll calls start) start (leavesAll calls start)

@@ -12,6 +12,7 @@ use lib.IntN.{ℤ}
 use Rattle.refusal.specs.Refused.{Answer, result, refused, refusedBy, andThen, either, done}
 use Rattle.refusal.specs.declared.Refusal.{Refusal}
 use Rattle.refusal.proofs.Answers.{went-on}
+use Rattle.limits.specs.declared.Caller.{Caller}
 use Rattle.particle.specs.declared.Particle.{Particle}
 use Rattle.particles.specs.declared.Checked.{Checked}
 use Rattle.particles.specs.declared.Checked.the-variants as checked
@@ -26,14 +27,14 @@ use Rattle.simulation.specs.Run.{Completion, afterOne, runFrom, runBy, r
 use Rattle.simulation.specs.Internal.{RunReady}
 use Rattle.simulation.proofs.Calls.{ready-run}
 
-module _ (s : Settings) (steps : ℕ) (records mass : List ℕ) (px py : List ℤ) where
+module _ (caller : Caller) (s : Settings) (steps : ℕ) (records mass : List ℕ) (px py : List ℤ) where
   abbrev entry : Answer (List Particle)
-  entry = runEntry s steps records (gridsOf mass px py)
+  entry = runEntry caller s steps records (gridsOf mass px py)
 
   pub run-ready : {ps : List Particle} → entry ≡ result ps → RunReady s records mass px py
   unfolding runEntry
   run-ready {ps} e =
-      let a = accepted s (buffersOf (gridsOf mass px py)) steps records e in
+      let a = accepted caller s (buffersOf (gridsOf mass px py)) steps records e in
       let l = long-three _ _ _ _ (a .long) in
       record {
         particles = ps;
@@ -46,7 +47,7 @@ module _ (s : Settings) (steps : ℕ) (records mass : List ℕ) (px py : List �
       }
 
   -- what the check at entry tells
-  module _ {r : Checked} (e : toldChecked r ≡ andThen (entryAnswer s (buffersOf (gridsOf mass px py)) steps records) (λ ps. result (length ps))) where
+  module _ {r : Checked} (e : toldChecked r ≡ andThen (entryAnswer caller s (buffersOf (gridsOf mass px py)) steps records) (λ ps. result (length ps))) where
     pub entry-done : {n : ℕ} → r ≡ checked.Records n → (ps : List Particle) × (entry ≡ result ps)
     unfolding runEntry
     entry-done d = let w = went-on entry (λ ps. result (length ps)) (sym e ∙ ap toldChecked d) in (w .0, w .1)
@@ -68,15 +69,15 @@ module _ (s : Settings) (steps : ℕ) (records mass : List ℕ) (px py : List �
           y-velocities = ap (λ r. r .grids .y) e;
         }
 
-  pub run-accepted : {ps : List Particle} {c : Completion} {bytes mass′ : List ℕ} {x y : List ℤ} → entry ≡ result ps → seen c bytes (gridsOf mass′ x y) ≡ runFrom s steps records (particlesIn records) (gridsOf mass px py) → Sees (runAfter s steps records (gridsOf mass px py)) c bytes mass′ x y
+  pub run-accepted : {ps : List Particle} {c : Completion} {bytes mass′ : List ℕ} {x y : List ℤ} → entry ≡ result ps → seen c bytes (gridsOf mass′ x y) ≡ runFrom s steps records (particlesIn records) (gridsOf mass px py) → Sees (runAfter caller s steps records (gridsOf mass px py)) c bytes mass′ x y
   unfolding runAfter
   run-accepted {ps} e h =
-      sees (h ∙ ap (λ qs. runFrom s steps records qs (gridsOf mass px py)) (ready-run s records steps (gridsOf mass px py) e .holds) ∙ sym (ap by e))
+      sees (h ∙ ap (λ qs. runFrom s steps records qs (gridsOf mass px py)) (ready-run caller s records steps (gridsOf mass px py) e .holds) ∙ sym (ap by e))
     where
       by : Answer (List Particle) → After Completion
       by a = either a (λ ps. runFrom s steps records ps (gridsOf mass px py)) (λ n k. seen (record { completed = 0; stop = refused n k }) records (gridsOf mass px py))
 
-  pub run-refused : (f : Refusal) → entry ≡ refusedBy f → Sees (runAfter s steps records (gridsOf mass px py)) (record { completed = 0; stop = refusedBy f }) records mass px py
+  pub run-refused : (f : Refusal) → entry ≡ refusedBy f → Sees (runAfter caller s steps records (gridsOf mass px py)) (record { completed = 0; stop = refusedBy f }) records mass px py
   unfolding runAfter
   run-refused f e = sees (sym (ap by e))
     where
@@ -85,13 +86,13 @@ module _ (s : Settings) (steps : ℕ) (records mass : List ℕ) (px py : List �
 
 -- ---- a step
 
-module _ (s : Settings) (records : List ℕ) (grids : Grids) where
+module _ (caller : Caller) (s : Settings) (records : List ℕ) (grids : Grids) where
   abbrev stopOf : After Completion → After (Answer Unit)
   stopOf r = seen (r .answer .stop) (r .records) (r .grids)
 
-  pub step-is-run : stepAfter s records grids ≡ stopOf (runAfter s 1 records grids)
+  pub step-is-run : stepAfter caller s records grids ≡ stopOf (runAfter caller s 1 records grids)
   unfolding stepAfter runAfter stepEntry runEntry entryAnswer beginAnswer stepFrom runBy
-  step-is-run = go (stepEntry s records grids)
+  step-is-run = go (stepEntry caller s records grids)
     where
       tried : (ps : List Particle) (a : Answer (List Particle)) → either a (λ qs. seen done (recordsOf qs) (nodesOf s ps)) (λ n k. seen (refused n k) records (nodesOf s ps)) ≡ stopOf (either a (λ qs. afterOne (runFrom s 0 (recordsOf qs) qs (nodesOf s ps))) (λ k p. seen (record { completed = 0; stop = refused k p }) records (nodesOf s ps)))
       tried ps (result qs) = refl
@@ -101,7 +102,7 @@ module _ (s : Settings) (records : List ℕ) (grids : Grids) where
       go (result ps) = tried ps (stepOf s ps)
       go (refused n k) = refl
 
-  pub step-sees : {c : Completion} {t : Answer Unit} {bytes mass : List ℕ} {x y : List ℤ} → c .stop ≡ t → Sees (runAfter s 1 records grids) c bytes mass x y → Sees (stepAfter s records grids) t bytes mass x y
+  pub step-sees : {c : Completion} {t : Answer Unit} {bytes mass : List ℕ} {x y : List ℤ} → c .stop ≡ t → Sees (runAfter caller s 1 records grids) c bytes mass x y → Sees (stepAfter caller s records grids) t bytes mass x y
   step-sees e h =
       record {
         answer = sym e ∙ ap (λ r. r .stop) (h .answer) ∙ ap (λ r. r .answer) (sym step-is-run);

@@ -5,6 +5,7 @@ use Prim.Native.Nat.{ℕ}
 use lib.ListN.{replicate}
 use lib.IntN.{ℤ, pos, negsuc}
 use Rattle.arith.specs.Rounding.{nearest}
+use Rattle.limits.specs.declared.Caller.the-variants.{Bench, Page}
 use Rattle.spline.specs.Spline.{nearestNode, offset, onAxis, axisWeight}
 use Rattle.particle.specs.declared.Particle.{Particle}
 use Rattle.particle.specs.Record.{particleOf, recordOf, readParticle, readAnswer}
@@ -34,14 +35,14 @@ start = 0 ∷ 7 ∷ 0 ∷ 129 ∷ 0 ∷ 16 ∷ 1 ∷ 254 ∷ 0 ∷ 0 ∷ 0 ∷ 0
 
 -- a run of one step; a step with a buffer that is too short; a run that is stopped at its 16th step, off the grid in y
 abbrev calls : List Call
-calls = run still 1 given ∷ step still short ∷ run still 40 given ∷ []
+calls = run Page still 1 given ∷ step Page still short ∷ run Bench still 40 given ∷ []
 
 abbrev line : Particle → List ℤ
 line p = pos (p .identifier) ∷ pos (p .mass) ∷ pos (p .x) ∷ pos (p .y) ∷ p .vx ∷ p .vy ∷ p .bxx ∷ p .bxy ∷ p .byx ∷ p .byy ∷ pos (p .marks) ∷ []
 
 record Worked : Type 0 where
   -- "7 2 67 62 3 -2 0 0 0 0 200"
-  first : map line (particlesIn (leaves (run still 1 given) start)) ≡ (pos 7 ∷ pos 2 ∷ pos 67 ∷ pos 62 ∷ pos 3 ∷ negsuc 1 ∷ pos 0 ∷ pos 0 ∷ pos 0 ∷ pos 0 ∷ pos 200 ∷ []) ∷ []
+  first : map line (particlesIn (leaves (run Page still 1 given) start)) ≡ (pos 7 ∷ pos 2 ∷ pos 67 ∷ pos 62 ∷ pos 3 ∷ negsuc 1 ∷ pos 0 ∷ pos 0 ∷ pos 0 ∷ pos 0 ∷ pos 200 ∷ []) ∷ []
   number : completesAll calls start ≡ 16
   last : map line (particlesIn (leavesAll calls start)) ≡ (pos 7 ∷ pos 2 ∷ pos 112 ∷ pos 32 ∷ pos 3 ∷ negsuc 1 ∷ pos 0 ∷ pos 0 ∷ pos 0 ∷ pos 0 ∷ pos 200 ∷ []) ∷ []
 

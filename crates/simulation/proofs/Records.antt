@@ -9,6 +9,7 @@ use Prim.Native.Nat.{ℕ, _*_}
 use lib.ListN.{length}
 use Rattle.refusal.specs.Refused.{result, andThen}
 use Rattle.refusal.proofs.Answers.{went-on}
+use Rattle.limits.specs.declared.Caller.the-variants.{Bench}
 use Rattle.particle.specs.declared.Particle.{Particle}
 use Rattle.particle.specs.Layout.{recordLength}
 use Rattle.apic.specs.Limits.{SetLimits}
@@ -28,8 +29,8 @@ module _ {nx ny : ℕ} {ps : List Particle} (limits : SetLimits nx ny ps) where
 
 pub accepted-length : {records : List ℕ} → Accepted records → length records ≡ recordLength * length (particlesIn records)
 accepted-length {records} h =
-    let a = went-on (setAnswer (h .nx) (h .ny) records) (λ ps. result (length ps)) (h .accepts) in
-    let n = entered (h .nx) (h .ny) records (a .1) in
+    let a = went-on (setAnswer Bench (h .nx) (h .ny) records) (λ ps. result (length ps)) (h .accepts) in
+    let n = entered Bench (h .nx) (h .ny) records (a .1) in
     sym (length-limits (length records) (n .whole) .whole)
     ∙ ap (λ k. recordLength * k)
     (sym (counted (h .nx) (h .ny) 0 records (recordCount records) 0 0 0 (n .set)) ∙ ap length (sym (particlesIn-accepted (h .nx) (h .ny) records (a .1))))

@@ -20,10 +20,10 @@ use Rattle.arith.specs.Rounding.{rounded, rounded-error}
 use Rattle.arith.specs.Sums.{Each, upTo, each-upTo}
 use Rattle.refusal.specs.Refused.{Answer, result, refused, refuseIf, done}
 use Rattle.refusal.proofs.Answers.{not-refused}
-use Rattle.limits.specs.Limits.{mostVelocity, mostAffine, mostNodeMass, mostNodeVelocity}
+use Rattle.limits.specs.Limits.{mostVelocity, mostAffine, mostNodeMass, mostNodeVelocity, mostSideOf}
 use Rattle.spline.specs.Spline.{axisWeight, D}
 use Rattle.particle.specs.declared.Particle.{Particle}
-use Rattle.particles.specs.Set.{recordsOf}
+use Rattle.particles.specs.Set.{recordsOf, validSize}
 use Rattle.apic.specs.Step.{Axis, alongX, alongY, gravity, newCoordinate, nodeMass, Grids}
 use Rattle.apic.specs.Limits.{SetLimits}
 use Rattle.apic.proofs.Bounds as bounds
@@ -31,6 +31,7 @@ use Rattle.apic.proofs.Bounds.{limited-set, node-limits}
 use Rattle.apic.proofs.Kernel.{Lawful, lawful-gravity, lawful-updated}
 use Rattle.apic.proofs.Spline.{spline-lawful}
 use Rattle.arith.specs.Lists.{length-tabulated}
+use Rattle.limits.specs.declared.Caller.{Caller}
 use Rattle.gathering.specs.Gather.{beyond, offAxis, moveCheck, moveChecks, NodeVelocities}
 use Rattle.update.specs.Update.{velocityOf, updateAnswer}
 use Rattle.update.specs.Internal.{GridLimits}
@@ -116,9 +117,9 @@ module _ {w : ℕ → ℕ → ℤ} {D : ℕ} (law : Lawful w D) (s : Settings) (
       each-image P f (x ∷ xs) e = (e .0, each-image P f xs (e .1))
 
 -- with the spline's weights
-pub update-done : (s : Settings) (ps : List Particle) → SetLimits (s .nx) (s .ny) ps → ForceLimits s → updateAnswer s (masses s ps) (momenta s alongX ps) (momenta s alongY ps) ≡ done
-update-done s ps limits forces =
-    update-accepts s (masses s ps) (momenta s alongX ps) (momenta s alongY ps) (grid-limits spline-lawful s ps limits forces)
+pub update-done : (caller : Caller) (s : Settings) (ps : List Particle) → validSize (mostSideOf caller) (s .nx) (s .ny) ≡ true → SetLimits (s .nx) (s .ny) ps → ForceLimits s → updateAnswer caller s (masses s ps) (momenta s alongX ps) (momenta s alongY ps) ≡ done
+update-done caller s ps size limits forces =
+    update-accepts caller s (masses s ps) (momenta s alongX ps) (momenta s alongY ps) size (grid-limits spline-lawful s ps limits forces)
 
 -- ---- the step
 

@@ -15,6 +15,7 @@ use lib.ListN.{length, length-map}
 use lib.IntN.{ℤ}
 use Rattle.refusal.specs.Refused.{Answer, result, refused, refusedBy, either, done}
 use Rattle.refusal.specs.declared.Refusal.{Refusal}
+use Rattle.limits.specs.declared.Caller.the-variants.{Bench}
 use Rattle.spline.specs.Kernel.{weightIn, Kernel, BuiltIn}
 use Rattle.spline.proofs.Spline.{built-in-weights}
 use Rattle.particle.specs.Layout.{recordLength}
@@ -232,7 +233,7 @@ module _ {s : Settings} {steps : ℕ} {weights : List (List ℕ)} {d : ℕ} {sou
 
 module _ {s : Settings} {records mass : List ℕ} {px py : List ℤ} (ready : RunReady s records mass px py) where
   bytes : length records ≡ recordLength * recordCount records
-  bytes = sym (length-limits (length records) (entered (s .nx) (s .ny) records (ready .set) .whole) .whole)
+  bytes = sym (length-limits (length records) (entered Bench (s .nx) (s .ny) records (ready .set) .whole) .whole)
 
   module _ {a : List ℤ} (e : a ≡ unpacked (particlesIn records)) where
     holds : Holds (s .nx) (s .ny) a (particlesIn records)

@@ -12,6 +12,8 @@ use Rattle.arith.specs.Order.{Within}
 use Rattle.arith.specs.Rounding.{rounded}
 use Rattle.arith.specs.Sums.{Each, sumOver}
 use Rattle.refusal.specs.Refused.{result, either}
+use Rattle.limits.specs.declared.Caller.{Caller}
+use Rattle.limits.specs.declared.Caller.the-variants.{Bench}
 use Rattle.spline.specs.Spline.{axisWeight, D}
 use Rattle.particle.specs.declared.Particle.{Particle}
 use Rattle.apic.specs.Step.{Axis, gravity, Grids}
@@ -23,34 +25,34 @@ use Rattle.simulation.specs.Run.{runAfter}
 
 -- ---- records
 
--- check a set accepts the records, for some sizes
+-- check a set accepts the records, for some sizes; the bench's, which accepts what any caller's does
 pub record Accepted (records : List ℕ) : Type 0 where
   pub nx : ℕ
   pub ny : ℕ
   pub count : ℕ
-  pub accepts : checkAnswer nx ny records ≡ result count
+  pub accepts : checkAnswer Bench nx ny records ≡ result count
 
 -- ---- calls
 
--- a call is everything that a step or run is given beside the records: settings, the number of steps, and the three grids
--- with any contents and any lengths
+-- a call is who makes it, and everything that a step or run is given beside the records: settings, the number of steps, and the
+-- three grids with any contents and any lengths
 pub data Call : Type 0 where
-  step : Settings → Grids → Call
-  run : Settings → ℕ → Grids → Call
+  step : Caller → Settings → Grids → Call
+  run : Caller → Settings → ℕ → Grids → Call
 
 abbrev pub settingsOf : Call → Settings
-settingsOf (step s grids) = s
-settingsOf (run s steps grids) = s
+settingsOf (step caller s grids) = s
+settingsOf (run caller s steps grids) = s
 
 -- the records that a call leaves
 abbrev pub leaves : Call → List ℕ → List ℕ
-leaves (step s grids) records = stepAfter s records grids .records
-leaves (run s steps grids) records = runAfter s steps records grids .records
+leaves (step caller s grids) records = stepAfter caller s records grids .records
+leaves (run caller s steps grids) records = runAfter caller s steps records grids .records
 
 -- the number of steps that it says it completed: one or none, or the number that the run answers
 abbrev pub completes : Call → List ℕ → ℕ
-completes (step s grids) records = either (stepAfter s records grids .answer) (λ _. 1) (λ n k. 0)
-completes (run s steps grids) records = runAfter s steps records grids .answer .completed
+completes (step caller s grids) records = either (stepAfter caller s records grids .answer) (λ _. 1) (λ n k. 0)
+completes (run caller s steps grids) records = runAfter caller s steps records grids .answer .completed
 
 -- ---- lists of calls: each gets the records that the one before left
 

@@ -8,6 +8,7 @@ use lib.Dec.{eqb}
 use lib.ListN.{length}
 use lib.IntN.{ℤ}
 use Rattle.refusal.specs.Refused.{Answer, result, refusedBy}
+use Rattle.limits.specs.declared.Caller.the-variants.{Bench}
 use Rattle.spline.specs.Kernel.{Kernel}
 use Rattle.particle.specs.declared.Particle.{Particle}
 use Rattle.particles.specs.Set.{setLength, recordsOf, particlesIn, setAnswer}
@@ -102,7 +103,7 @@ middle = 512
 -- an accepted set and its grids
 pub record RunReady (s : Settings) (records mass : List ℕ) (px py : List ℤ) : Type 0 where
   pub particles : List Particle
-  pub set : setAnswer (s .nx) (s .ny) records ≡ result particles
+  pub set : setAnswer Bench (s .nx) (s .ny) records ≡ result particles
   pub most : length records ≤ setLength
   pub forces : ForceLimits s
   pub mass-long : length mass ≡ s .nx * s .ny

@@ -4,6 +4,7 @@ use mathlib.Core.List.{List}
 use Prim.Native.Nat.{ℕ, zero, suc}
 use lib.IntN.{ℤ}
 use Rattle.refusal.specs.Refused.{Answer, refused, refusedBy, either, done}
+use Rattle.limits.specs.declared.Caller.{Caller}
 use Rattle.spline.specs.Spline.{axisWeight, D}
 use Rattle.entry.specs.Entry.{entryAnswer}
 use Rattle.particle.specs.declared.Particle.{Particle}
@@ -41,14 +42,14 @@ runBy w d s (suc n) records ps grids =
 abbrev pub runFrom : Settings → ℕ → List ℕ → List Particle → Grids → After Completion
 runFrom = runBy axisWeight D
 
--- 2; 1, also for the grid buffers; 10; 18; 19; 17 steps above 10,000; the set
-unfoldable pub runEntry : Settings → ℕ → List ℕ → Grids → Answer (List Particle)
-runEntry s steps records grids = entryAnswer s (buffersOf grids) steps records
+-- 2; 1, also for the grid buffers; 3; 10; 18; 19; 17 steps above 10,000; the set
+unfoldable pub runEntry : Caller → Settings → ℕ → List ℕ → Grids → Answer (List Particle)
+runEntry caller s steps records grids = entryAnswer caller s (buffersOf grids) steps records
 
 -- "a run refused at entry answers 0 completed steps with that refusal", and nothing has changed
-unfoldable pub runAfter : Settings → ℕ → List ℕ → Grids → After Completion
-runAfter s steps records grids =
-    either (runEntry s steps records grids) (λ ps. runFrom s steps records ps grids)
+unfoldable pub runAfter : Caller → Settings → ℕ → List ℕ → Grids → After Completion
+runAfter caller s steps records grids =
+    either (runEntry caller s steps records grids) (λ ps. runFrom s steps records ps grids)
     (λ n k. record { answer = record { completed = 0; stop = refused n k }; records = records; grids = grids })
 
 abbrev pub toldRan : Ran → Completion

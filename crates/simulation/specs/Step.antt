@@ -6,6 +6,7 @@ use Prim.Native.Nat.{ℕ}
 use lib.ListN.{length}
 use lib.IntN.{ℤ, natAbs}
 use Rattle.refusal.specs.Refused.{Answer, result, refused, refusedBy, either, done}
+use Rattle.limits.specs.declared.Caller.{Caller}
 use Rattle.spline.specs.Spline.{axisWeight, D}
 use Rattle.particle.specs.declared.Particle.{Particle}
 use Rattle.apic.specs.Step.{Axis, alongX, alongY, Grids, grid, nodeMass, nodeMomentum}
@@ -92,9 +93,9 @@ pub record Sees {A : Type 0} (after : After A) (told : A) (bytes mass : List ℕ
 abbrev pub buffersOf : Grids → Buffers
 buffersOf grids = Three (length (grids .mass)) (length (grids .x)) (length (grids .y))
 
--- 2; 1, also for the grid buffers; 10; 18; 19; the set
-unfoldable pub stepEntry : Settings → List ℕ → Grids → Answer (List Particle)
-stepEntry s records grids = entryAnswer s (buffersOf grids) 0 records
+-- 2; 1, also for the grid buffers; 3; 10; 18; 19; the set
+unfoldable pub stepEntry : Caller → Settings → List ℕ → Grids → Answer (List Particle)
+stepEntry caller s records grids = entryAnswer caller s (buffersOf grids) 0 records
 
 -- a step from the particles ps of the records: on 13, 14, 15 no record has moved
 unfoldable pub stepFrom : Settings → List ℕ → List Particle → After (Answer Unit)
@@ -104,9 +105,9 @@ stepFrom s records ps =
     (λ n k. record { answer = refused n k; records = records; grids = nodesOf s ps })
 
 -- refused at entry, nothing has changed
-unfoldable pub stepAfter : Settings → List ℕ → Grids → After (Answer Unit)
-stepAfter s records grids =
-    either (stepEntry s records grids) (λ ps. stepFrom s records ps)
+unfoldable pub stepAfter : Caller → Settings → List ℕ → Grids → After (Answer Unit)
+stepAfter caller s records grids =
+    either (stepEntry caller s records grids) (λ ps. stepFrom s records ps)
     (λ n k. record { answer = refused n k; records = records; grids = grids })
 
 abbrev pub toldStepped : Stepped → Answer Unit

@@ -1,5 +1,5 @@
 -- The starred examples of documents 01 and 02, one row each: what the operations' definitions answer, and what they must. A row is
--- an answer with numbers: the three weights of Weights; the number of records of Check a set; of Step the particles in the records
+-- the bench's answer with numbers: the three weights of Weights; the number of records of Check a set; of Step the particles in the records
 -- that it leaves, their identifier, nine numbers and marks each, or the node velocities that it leaves on the x axis. The grid has
 -- 4 by 5 nodes, and what the example leaves open differs on the two axes. Assumes nothing.
 use mathlib.Core.Path.{_≡_}
@@ -8,6 +8,7 @@ use Prim.Native.Nat.{ℕ, _+_}
 use lib.ListN.{replicate}
 use lib.IntN.{ℤ, pos, negℤ}
 use Rattle.refusal.specs.Refused.{Answer, result, refused, andThen}
+use Rattle.limits.specs.declared.Caller.the-variants.{Bench}
 use Rattle.spline.specs.Answers.{weightsAnswer}
 use Rattle.particle.specs.declared.Particle.{Particle}
 use Rattle.particle.specs.Record.{recordOf}
@@ -40,14 +41,14 @@ weighing q = andThen (weightsAnswer q) (λ w. result (w .lower ∷ w .nearest �
 
 -- check a set, of one record at (x, 200): y is on an axis of 5 nodes, and on none of 4
 abbrev checking : ℕ → Answer (List ℤ)
-checking x = andThen (checkAnswer 4 5 (recordOf (particle 1 1 x 200 (pos 0) (pos 0) (pos 0)))) (λ n. result (pos n ∷ []))
+checking x = andThen (checkAnswer Bench 4 5 (recordOf (particle 1 1 x 200 (pos 0) (pos 0) (pos 0)))) (λ n. result (pos n ∷ []))
 
 -- a step of these particles' records, under this gravity, in grids that hold something
 abbrev lent : Grids
 lent = record { mass = replicate 20 3; x = replicate 20 (pos 5); y = replicate 20 (negℤ (pos 7)) }
 
 abbrev after : ℤ → ℤ → List Particle → After (Answer Unit)
-after gx gy ps = stepAfter (record { nx = 4; ny = 5; gx = gx; gy = gy; edge = Open; drag = 0 }) (recordsOf ps) lent
+after gx gy ps = stepAfter Bench (record { nx = 4; ny = 5; gx = gx; gy = gy; edge = Open; drag = 0 }) (recordsOf ps) lent
 
 abbrev listed : List Particle → List ℤ
 listed [] = []

@@ -14,6 +14,7 @@ use borrow.Author.Tests.{ltb-true, lt-ltb, le-ltb, not-false}
 use lib.Dec.{ltb}
 use Rattle.refusal.specs.Refused.{Answer, result, refused, refuseIf, andThen, done}
 use Rattle.refusal.proofs.Answers.{passed, went-on, same-result, same-refusal, not-refused}
+use Rattle.limits.specs.declared.Caller.{Caller}
 use Rattle.bath_file.specs.declared.Header.{Header}
 use Rattle.bath_file.specs.File.{fileAnswer}
 use Rattle.store.specs.Names.{validName}
@@ -79,31 +80,31 @@ module _ (n k : ℕ) where
 abbrev pub last : List ℕ → List ℕ → Answer ℕ
 last store name = refuseIf (not (ltb (placeFor store name) placeCount)) 24 0 (result (placeFor store name))
 
-module _ (store name file : List ℕ) where
+module _ (caller : Caller) (store name file : List ℕ) where
   abbrev own : Answer ℕ
-  own = andThen (fileAnswer file) (λ _. last store name)
+  own = andThen (fileAnswer caller file) (λ _. last store name)
 
   module _ (v : validStore store ≡ true) (n : validName name ≡ true) where
-    pub keep-own : {m k : ℕ} → fileAnswer file ≡ refused m k → keepAnswer store name file ≡ refused m k
+    pub keep-own : {m k : ℕ} → fileAnswer caller file ≡ refused m k → keepAnswer caller store name file ≡ refused m k
     unfolding keepAnswer
     keep-own f = good-call (validStore store) name own v n ∙ ap (λ a. andThen a (λ _. last store name)) f
 
-    pub keep-last : {h : Header} → fileAnswer file ≡ result h → keepAnswer store name file ≡ last store name
+    pub keep-last : {h : Header} → fileAnswer caller file ≡ result h → keepAnswer caller store name file ≡ last store name
     unfolding keepAnswer
     keep-last f = good-call (validStore store) name own v n ∙ ap (λ a. andThen a (λ _. last store name)) f
 
   pub record KeepPassed (k : ℕ) : Type 0 where
     pub named : validName name ≡ true
     pub header : Header
-    pub accepts : fileAnswer file ≡ result header
+    pub accepts : fileAnswer caller file ≡ result header
     pub place : placeFor store name ≡ k
     pub below : k < placeCount
 
-  pub keep-passed : {k : ℕ} → keepAnswer store name file ≡ result k → KeepPassed k
+  pub keep-passed : {k : ℕ} → keepAnswer caller store name file ≡ result k → KeepPassed k
   unfolding keepAnswer
   keep-passed e =
       let c = checked-passed (validStore store) name own e in
-      let w = went-on (fileAnswer file) (λ _. last store name) (c .1 .1) in
+      let w = went-on (fileAnswer caller file) (λ _. last store name) (c .1 .1) in
       let p = place-passed 24 (placeFor store name) (w .2) in
       record { named = c .1 .0; header = w .0; accepts = w .1; place = p .0; below = p .1 }
 

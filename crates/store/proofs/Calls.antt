@@ -17,8 +17,11 @@ use lib.Dec.{leb, ltb, eqb}
 use lib.ListN.{length, getD, set, drop}
 use Rattle.refusal.specs.Refused.{Answer, result, refused, either, accepted}
 use Rattle.refusal.proofs.Answers.{same-result, not-result}
+use Rattle.limits.specs.declared.Caller.{Caller}
+use Rattle.limits.specs.declared.Caller.the-variants.{Bench}
 use Rattle.bath_file.specs.declared.Header.{Header}
 use Rattle.bath_file.specs.File.{fileAnswer}
+use Rattle.bath_file.proofs.Callers.{bench-file}
 use Rattle.store.specs.Names.{nameLength, allZero, sameBytes, padded, letters, validName}
 use Rattle.store.specs.Form.{mostFile, placeLength, placeCount, storeLength, nameIn, fileIn, occupied, placeAt, places, firstNamed, validPlaces, validStore, placeOf, fileUnder, holds}
 use Rattle.store.specs.Operations.{checkedCall, withPlace, placeFor, keptPlace, keepAnswer, keepLeaves, heldAnswer, returnAnswer, freePlace, forgetAnswer, forgetLeaves}
@@ -124,7 +127,7 @@ module _ (store : List ℕ) (s : StoreHeld store) (name : List ℕ) (v : validNa
 
   -- ---- an accepted keep
 
-  module _ (file : List ℕ) {h : Header} (accepts : fileAnswer file ≡ result h) (k : ℕ) (t : Takes k) where
+  module _ (file : List ℕ) {h : Header} (accepts : fileAnswer Bench file ≡ result h) (k : ℕ) (t : Takes k) where
     abbrev q : List ℕ
     q = keptPlace name file
 
@@ -243,31 +246,32 @@ module _ (store : List ℕ) (valid : validStore store ≡ true) where
   abbrev formed : StoreHeld store
   formed = store-held store valid
 
-  module _ (name file : List ℕ) where
+  module _ (caller : Caller) (name file : List ℕ) where
     abbrev kept-at : ℕ → List ℕ
     kept-at k = withPlace store k (keptPlace name file)
 
-    keep-refused : {n k : ℕ} → keepAnswer store name file ≡ refused n k → CallKeeps (keep name file) store
+    keep-refused : {n k : ℕ} → keepAnswer caller store name file ≡ refused n k → CallKeeps (keep caller name file) store
     unfolding keepLeaves
     keep-refused e =
         record {
-          form = left-valid store name (some file) kept-at (keepAnswer store name file) (ap (λ a. either a kept-at (λ n k. store)) e) valid;
-          under = refused-leaves store name (some file) kept-at (keepAnswer store name file) e;
+          form = left-valid store name (some file) kept-at (keepAnswer caller store name file) (ap (λ a. either a kept-at (λ n k. store)) e) valid;
+          under = refused-leaves store name (some file) kept-at (keepAnswer caller store name file) e;
         }
 
-    keep-accepted : {k : ℕ} → keepAnswer store name file ≡ result k → CallKeeps (keep name file) store
+    keep-accepted : {k : ℕ} → keepAnswer caller store name file ≡ result k → CallKeeps (keep caller name file) store
     unfolding keepLeaves
     keep-accepted {k} e =
-        let p = keep-passed store name file e in
+        let p = keep-passed caller store name file e in
         let v = p .named in
+        let a = bench-file caller file (p .accepts) in
         let t = chosen store formed name v k (p .place) (p .below) in
         record {
-          form = left-valid store name (some file) kept-at (keepAnswer store name file) (ap (λ a. either a kept-at (λ n k. store)) e) (kept-form store formed name v file (p .accepts) k t);
+          form = left-valid store name (some file) kept-at (keepAnswer caller store name file) (ap (λ a. either a kept-at (λ n k. store)) e) (kept-form store formed name v file a k t);
           under =
-              accepted-leaves store name (some file) kept-at (keepAnswer store name file) e v (kept-under store formed name v file (p .accepts) k t) (kept-elsewhere store formed name v file (p .accepts) k t);
+              accepted-leaves store name (some file) kept-at (keepAnswer caller store name file) e v (kept-under store formed name v file a k t) (kept-elsewhere store formed name v file a k t);
         }
 
-    keep-keeps : (a : Answer ℕ) → keepAnswer store name file ≡ a → CallKeeps (keep name file) store
+    keep-keeps : (a : Answer ℕ) → keepAnswer caller store name file ≡ a → CallKeeps (keep caller name file) store
     keep-keeps (result k) e = keep-accepted e
     keep-keeps (refused n k) e = keep-refused e
 
@@ -298,7 +302,7 @@ module _ (store : List ℕ) (valid : validStore store ≡ true) where
     forget-keeps (refused n k) e = forget-refused e
 
 pub every-call : EveryCall
-every-call store valid (keep name file) = keep-keeps store valid name file (keepAnswer store name file) refl
+every-call store valid (keep caller name file) = keep-keeps store valid caller name file (keepAnswer caller store name file) refl
 every-call store valid (return name buffer) = record { form = valid; under = λ m. refl }
 every-call store valid (forget name) = forget-keeps store valid name (forgetAnswer store name) refl
 
@@ -354,7 +358,7 @@ pub record Returns (store name file : List ℕ) : Type 0 where
   pub form : validStore store ≡ true
   pub held : holds store name ≡ some file
   pub header : Header
-  pub accepts : fileAnswer file ≡ result header
+  pub accepts : fileAnswer Bench file ≡ result header
 
 pub return-passed : (store name buffer : List ℕ) {file : List ℕ} → returnAnswer store name buffer ≡ result file → Returns store name file
 unfolding returnAnswer
@@ -369,5 +373,5 @@ return-passed store name buffer {file} e =
         let is = found store name v (placeOf store name) refl l in
         let a = occupied-file (placeAt store (placeOf store name)) (found-occupied store name valid v (placeOf store name) refl l) in
         let same : fileIn (placeAt store (placeOf store name)) ≡ file = same-result (sym (ap heldAnswer is) ∙ r) in
-        record { form = valid; held = is ∙ ap some same; header = a .0; accepts = subst (λ g. fileAnswer g ≡ result (a .0)) same (a .1) }
+        record { form = valid; held = is ∙ ap some same; header = a .0; accepts = subst (λ g. fileAnswer Bench g ≡ result (a .0)) same (a .1) }
     go valid v false f r = not-result (sym (ap heldAnswer (not-found store name v (ltb-false (placeOf store name) placeCount f))) ∙ r)

@@ -22,6 +22,7 @@ use Rattle.refusal.proofs.Answers.{went-on}
 use Rattle.particle.specs.Layout.{recordLength}
 use Rattle.bath_file.specs.declared.Header.{Header}
 use Rattle.bath_file.specs.Layout.{headerLength}
+use Rattle.limits.specs.declared.Caller.the-variants.{Bench}
 use Rattle.bath_file.specs.File.{headerIn, headerAnswer, recordsAnswer, fileAnswer}
 use Rattle.bath_file.proofs.Answers.{header-held, records-passed}
 use Rattle.store.specs.Names.{nameLength, allZero, padded, validName, validHeldName}
@@ -117,10 +118,10 @@ pub record FileLong (file : List ℕ) : Type 0 where
   pub is : length file ≡ headerLength + recordLength * headerIn (take headerLength file) .count
   pub most : length file ≤ mostFile
 
-pub file-long : (file : List ℕ) {h : Header} → fileAnswer file ≡ result h → FileLong file
+pub file-long : (file : List ℕ) {h : Header} → fileAnswer Bench file ≡ result h → FileLong file
 file-long file e =
-    let w = went-on (headerAnswer file) (λ g. recordsAnswer g file) e in
-    let held = header-held file (w .1) in
+    let w = went-on (headerAnswer Bench file) (λ g. recordsAnswer g file) e in
+    let held = header-held Bench file (w .1) in
     let n = records-passed (w .0) file (w .2) .0 in
     record {
       header = held .long;
@@ -151,7 +152,7 @@ module _ (name file : List ℕ) where
     unfolding keptPlace
     kept-room = drop-at (padded nameLength name) room nameLength (padded-length nameLength name short)
 
-    module _ {h : Header} (accepts : fileAnswer file ≡ result h) where
+    module _ {h : Header} (accepts : fileAnswer Bench file ≡ result h) where
       long : FileLong file
       long = file-long file accepts
 
@@ -170,7 +171,7 @@ module _ (name file : List ℕ) where
       valid-room =
           ap₂ _&&_
           (ap₂ _&&_ (ap₂ leb room-file (padded-length mostFile file (long .most)) ∙ le-leb (length file) mostFile (long .most))
-          (ap (λ n. accepted (fileAnswer (take n room))) room-file ∙ ap (λ l. accepted (fileAnswer l)) (padded-take mostFile file) ∙ ap accepted accepts))
+          (ap (λ n. accepted (fileAnswer Bench (take n room))) room-file ∙ ap (λ l. accepted (fileAnswer Bench l)) (padded-take mostFile file) ∙ ap accepted accepts))
           (ap (λ n. allZero (drop n room)) room-file ∙ ap allZero (padded-drop mostFile file) ∙ zero-zeros (mostFile - length file))
 
       pub kept-occupied : validName name ≡ true → occupied (keptPlace name file) ≡ true
@@ -191,7 +192,7 @@ free-zero = zero-zeros placeLength
 
 pub record RoomHeld (p : List ℕ) : Type 0 where
   pub fits : fileLength (roomIn p) ≤ length (roomIn p)
-  pub accepts : accepted (fileAnswer (fileIn p)) ≡ true
+  pub accepts : accepted (fileAnswer Bench (fileIn p)) ≡ true
 
 room-held : (p : List ℕ) → occupied p ≡ true → RoomHeld p
 unfolding occupied validRoom fileIn
@@ -199,12 +200,12 @@ room-held p o =
     let room = roomIn p in
     let n = fileLength room in
     let t = both (validHeldName (nameIn p)) (validRoom room) o .1 in
-    let a = both (leb n (length room) && accepted (fileAnswer (take n room))) (allZero (drop n room)) t .0 in
-    let b = both (leb n (length room)) (accepted (fileAnswer (take n room))) a in
+    let a = both (leb n (length room) && accepted (fileAnswer Bench (take n room))) (allZero (drop n room)) t .0 in
+    let b = both (leb n (length room)) (accepted (fileAnswer Bench (take n room))) a in
     record { fits = leb-true n (length room) (b .0); accepts = b .1 }
 
-pub occupied-file : (p : List ℕ) → occupied p ≡ true → (h : Header) × (fileAnswer (fileIn p) ≡ result h)
-occupied-file p o = accepted-is (fileAnswer (fileIn p)) (room-held p o .accepts)
+pub occupied-file : (p : List ℕ) → occupied p ≡ true → (h : Header) × (fileAnswer Bench (fileIn p) ≡ result h)
+occupied-file p o = accepted-is (fileAnswer Bench (fileIn p)) (room-held p o .accepts)
 
 pub occupied-fits : (p : List ℕ) → length p ≡ placeLength → occupied p ≡ true → fileLength (roomIn p) ≤ mostFile
 occupied-fits p long o = omega (arith, length-drop nameLength p, room-held p o .fits, long)

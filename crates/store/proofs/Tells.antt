@@ -15,6 +15,7 @@ use lib.Seq.{length-take-le}
 use Rattle.arith.specs.Sums.{Each}
 use Rattle.limits.proofs.Within.{both}
 use Rattle.refusal.specs.Refused.{Answer, result, refused, refuseIf, andThen, either, accepted, toldOf, done}
+use Rattle.limits.specs.declared.Caller.the-variants.{Bench}
 use Rattle.bath_file.specs.declared.Header.{Header}
 use Rattle.bath_file.specs.File.{fileAnswer}
 use Rattle.store.specs.Names.{nameLength, allZero, sameBytes, padded, letters, validName}
@@ -132,12 +133,12 @@ told-place (refused m j) b n k = refl
 
 pub keep-tells : KeepTells
 unfolding keepAnswer
-keep-tells store name file =
-    told-call (validStore store) name (andThen (fileAnswer file) (λ _. last store name))
-    ∙ same-call (validStore store) name (toldOf (andThen (fileAnswer file) (λ _. last store name))) (andThen (fileAnswer file) (λ _. refuseIf (not (isHeld (holds store name)) && eqb (heldCount (places store)) placeCount) 24 0 done))
+keep-tells caller store name file =
+    told-call (validStore store) name (andThen (fileAnswer caller file) (λ _. last store name))
+    ∙ same-call (validStore store) name (toldOf (andThen (fileAnswer caller file) (λ _. last store name))) (andThen (fileAnswer caller file) (λ _. refuseIf (not (isHeld (holds store name)) && eqb (heldCount (places store)) placeCount) 24 0 done))
     (λ valid v.
-    told-place (fileAnswer file) (not (ltb (placeFor store name) placeCount)) 24 (placeFor store name)
-    ∙ ap (λ b. andThen (fileAnswer file) (λ _. refuseIf b 24 0 done)) (no-place store (store-held store valid) name v))
+    told-place (fileAnswer caller file) (not (ltb (placeFor store name) placeCount)) 24 (placeFor store name)
+    ∙ ap (λ b. andThen (fileAnswer caller file) (λ _. refuseIf b 24 0 done)) (no-place store (store-held store valid) name v))
 
 -- ---- forget
 
@@ -156,11 +157,11 @@ forget-tells store name =
 -- ---- a store with room
 
 pub has-room : (store : List ℕ) → heldCount (places store) < placeCount → HasRoom store
-has-room store l name file =
-    keep-tells store name file
-    ∙ ap (λ b. checkedCall (validStore store) name (andThen (fileAnswer file) (λ _. refuseIf (not (isHeld (holds store name)) && b) 24 0 done))) (ne-eqb (heldCount (places store)) placeCount (λ e. less (heldCount (places store)) l e))
-    ∙ ap (λ b. checkedCall (validStore store) name (andThen (fileAnswer file) (λ _. refuseIf b 24 0 done))) (and-false (not (isHeld (holds store name))))
-    ∙ sym (told-call (validStore store) name (fileAnswer file))
+has-room store l caller name file =
+    keep-tells caller store name file
+    ∙ ap (λ b. checkedCall (validStore store) name (andThen (fileAnswer caller file) (λ _. refuseIf (not (isHeld (holds store name)) && b) 24 0 done))) (ne-eqb (heldCount (places store)) placeCount (λ e. less (heldCount (places store)) l e))
+    ∙ ap (λ b. checkedCall (validStore store) name (andThen (fileAnswer caller file) (λ _. refuseIf b 24 0 done))) (and-false (not (isHeld (holds store name))))
+    ∙ sym (told-call (validStore store) name (fileAnswer caller file))
   where
     less : (n : ℕ) → n < placeCount → n ≡ placeCount → ⊥
     less n h e = omega arith
@@ -193,15 +194,15 @@ forget-frees store name a =
 pub held-is-accepted : HeldIsAccepted
 held-is-accepted store name file valid e = go (validName name) refl
   where
-    go : (t : Bool) → validName name ≡ t → accepted (fileAnswer file) ≡ true
+    go : (t : Bool) → validName name ≡ t → accepted (fileAnswer Bench file) ≡ true
     go true v = under v (ltb (placeOf store name) placeCount) refl
       where
-        under : validName name ≡ true → (t : Bool) → ltb (placeOf store name) placeCount ≡ t → accepted (fileAnswer file) ≡ true
+        under : validName name ≡ true → (t : Bool) → ltb (placeOf store name) placeCount ≡ t → accepted (fileAnswer Bench file) ≡ true
         under v true l =
             let k = placeOf store name in
             let below = ltb-true k placeCount l in
             let is = Option·some-injective (fileIn (placeAt store k)) file (sym (found store name v k refl below) ∙ e) in
             let h = occupied-file (placeAt store k) (found-occupied store name valid v k refl below) in
-            ap (λ f. accepted (fileAnswer f)) (sym is) ∙ ap accepted (h .1)
+            ap (λ f. accepted (fileAnswer Bench f)) (sym is) ∙ ap accepted (h .1)
         under v false l = absurd (Option·none-ne-some file (sym (not-found store name v (ltb-false (placeOf store name) placeCount l)) ∙ e))
     go false v = absurd (Option·none-ne-some file (sym (holds-nothing store name v) ∙ e))

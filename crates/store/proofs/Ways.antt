@@ -13,6 +13,7 @@ use lib.Dec.{leb, ltb}
 use lib.ListN.{length, drop}
 use Rattle.refusal.specs.Refused.{Answer, result, refused, refuseIf, andThen, either, toldOf, done, Leaves}
 use Rattle.refusal.proofs.Answers.{refused-leaves, done-leaves}
+use Rattle.limits.specs.declared.Caller.{Caller}
 use Rattle.bath_file.specs.declared.Header.{Header}
 use Rattle.bath_file.specs.File.{fileAnswer}
 use Rattle.store.specs.Form.{mostFile, placeCount, fileIn, placeAt, validStore, placeOf, holds}
@@ -23,30 +24,31 @@ use Rattle.store.proofs.Calls.{found, not-found}
 
 -- ---- keep
 
-module _ (store name file : List ℕ) where
-  abbrev new : ℕ → List ℕ
-  new k = withPlace store k (keptPlace name file)
+abbrev new : List ℕ → List ℕ → List ℕ → ℕ → List ℕ
+new store name file k = withPlace store k (keptPlace name file)
 
-  keep-by : {a : Answer ℕ} {told : Answer Unit} {left : List ℕ} → keepAnswer store name file ≡ a → Leaves a new store told left → KeepIs store name file told left
+module _ (caller : Caller) (store name file : List ℕ) where
+  keep-by : {a : Answer ℕ} {told : Answer Unit} {left : List ℕ} → keepAnswer caller store name file ≡ a → Leaves a (new store name file) store told left → KeepIs caller store name file told left
   unfolding keepLeaves
-  keep-by e l = record { answer = l .answer ∙ ap toldOf (sym e); store-is = l .left-is ∙ ap (λ a. either a new (λ n k. store)) (sym e) }
+  keep-by e l = record { answer = l .answer ∙ ap toldOf (sym e); store-is = l .left-is ∙ ap (λ a. either a (new store name file) (λ n k. store)) (sym e) }
 
-  pub keep-begun : {n k : ℕ} → checkedCall (validStore store) name done ≡ refused n k → KeepIs store name file (refused n k) store
+  pub keep-begun : {n k : ℕ} → checkedCall (validStore store) name done ≡ refused n k → KeepIs caller store name file (refused n k) store
   unfolding keepAnswer
-  keep-begun e = keep-by (refused-call (validStore store) name (andThen (fileAnswer file) (λ _. last store name)) e) (refused-leaves refl)
+  keep-begun e = keep-by (refused-call (validStore store) name (andThen (fileAnswer caller file) (λ _. last store name)) e) (refused-leaves refl)
 
   module _ (b : Begun store name) where
-    pub keep-bath : {n k : ℕ} → fileAnswer file ≡ refused n k → KeepIs store name file (refused n k) store
-    keep-bath f = keep-by (keep-own store name file (b .form) (b .named) f) (refused-leaves refl)
+    pub keep-bath : {n k : ℕ} → fileAnswer caller file ≡ refused n k → KeepIs caller store name file (refused n k) store
+    keep-bath f = keep-by (keep-own caller store name file (b .form) (b .named) f) (refused-leaves refl)
 
-    pub keep-placed : {h : Header} {told : Answer Unit} {left : List ℕ} → fileAnswer file ≡ result h → KeepsAt store name file told left → KeepIs store name file told left
-    keep-placed f l = keep-by (keep-last store name file (b .form) (b .named) f) l
+    pub keep-placed : {h : Header} {told : Answer Unit} {left : List ℕ} → fileAnswer caller file ≡ result h → KeepsAt store name file told left → KeepIs caller store name file told left
+    keep-placed f l = keep-by (keep-last caller store name file (b .form) (b .named) f) l
 
+module _ (store name file : List ℕ) where
   pub keeps-full : (k : ℕ) → k ≡ placeFor store name → k ≡ placeCount → KeepsAt store name file (refused 24 0) store
   keeps-full k e f = refused-leaves (is-not 24 (placeFor store name) (omega (arith, e, f)))
 
-  pub keeps-there : (k : ℕ) {left : List ℕ} → k ≡ placeFor store name → k < placeCount → left ≡ new k → KeepsAt store name file done left
-  keeps-there k e l is = done-leaves (is-there 24 (placeFor store name) (omega (arith, e, l))) (is ∙ ap new e)
+  pub keeps-there : (k : ℕ) {left : List ℕ} → k ≡ placeFor store name → k < placeCount → left ≡ new store name file k → KeepsAt store name file done left
+  keeps-there k e l is = done-leaves (is-there 24 (placeFor store name) (omega (arith, e, l))) (is ∙ ap (new store name file) e)
 
 -- ---- return
 

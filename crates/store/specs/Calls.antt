@@ -1,6 +1,6 @@
--- Document 02, Paper 8: what keep and forget answer, by what the store holds; and over lists of keep, return and forget, refused calls
--- included: the store stays of its form, and under each name stands what the last keep or forget of that name that was not refused
--- left, or what stood there at the start.
+-- Document 02, Papers 8 and 9: what keep and forget answer, by what the store holds; and over lists of keep, return and forget by any
+-- callers, refused calls included: the store stays of its form, and under each name stands what the last keep or forget of that name
+-- that was not refused left, or what stood there at the start.
 --     HeldIsAccepted, KeepTells, ForgetTells, HasRoom, ForgetFrees    the answers, by what is held
 --     emptyStore, ZerosAreEmpty               a store of zeros
 --     StoreCall, leavesStore                  a call, and the store that it leaves
@@ -15,6 +15,8 @@ use Prim.Native.Nat.{ℕ}
 use lib.Dec.{leb, eqb}
 use lib.ListN.{length, replicate}
 use Rattle.refusal.specs.Refused.{refuseIf, andThen, accepted, toldOf, done}
+use Rattle.limits.specs.declared.Caller.{Caller}
+use Rattle.limits.specs.declared.Caller.the-variants.{Bench}
 use Rattle.bath_file.specs.File.{fileAnswer}
 use Rattle.store.specs.Names.{sameBytes}
 use Rattle.store.specs.Form.{mostFile, placeCount, storeLength, places, validStore, heldCount, holds}
@@ -28,12 +30,12 @@ isHeld (some file) = true
 
 -- a file that is held is one that the bench accepts
 abbrev pub HeldIsAccepted : Type 0
-HeldIsAccepted = (store name file : List ℕ) → validStore store ≡ true → holds store name ≡ some file → accepted (fileAnswer file) ≡ true
+HeldIsAccepted = (store name file : List ℕ) → validStore store ≡ true → holds store name ≡ some file → accepted (fileAnswer Bench file) ≡ true
 
 -- after the other checks 24 comes exactly where the name is not held and no place is free, so that four others are
 abbrev pub KeepTells : Type 0
 KeepTells =
-    (store name file : List ℕ) → toldOf (keepAnswer store name file) ≡ checkedCall (validStore store) name (andThen (fileAnswer file) (λ _. refuseIf (not (isHeld (holds store name)) && eqb (heldCount (places store)) placeCount) 24 0 done))
+    (caller : Caller) (store name file : List ℕ) → toldOf (keepAnswer caller store name file) ≡ checkedCall (validStore store) name (andThen (fileAnswer caller file) (λ _. refuseIf (not (isHeld (holds store name)) && eqb (heldCount (places store)) placeCount) 24 0 done))
 
 -- after 1 and 22, 23 comes exactly where the name is not held
 abbrev pub ForgetTells : Type 0
@@ -41,7 +43,8 @@ ForgetTells = (store name : List ℕ) → toldOf (forgetAnswer store name) ≡ t
 
 -- a keep is refused with 1, 22 or the bath's own numbers only: 24 does not come
 abbrev pub HasRoom : List ℕ → Type 0
-HasRoom store = (name file : List ℕ) → toldOf (keepAnswer store name file) ≡ toldOf (checkedCall (validStore store) name (fileAnswer file))
+HasRoom store =
+    (caller : Caller) (name file : List ℕ) → toldOf (keepAnswer caller store name file) ≡ toldOf (checkedCall (validStore store) name (fileAnswer caller file))
 
 -- a forget makes its place usable again
 abbrev pub ForgetFrees : Type 0
@@ -63,15 +66,15 @@ ZerosAreEmpty = Empty emptyStore
 
 -- ---- calls
 
--- a call is everything that an operation is given beside the store: a name, and the file or the buffer
+-- a call is everything that an operation is given beside the store: a name, and the file, with who keeps it, or the buffer
 pub data StoreCall : Type 0 where
-  keep : List ℕ → List ℕ → StoreCall
+  keep : Caller → List ℕ → List ℕ → StoreCall
   return : List ℕ → List ℕ → StoreCall
   forget : List ℕ → StoreCall
 
 -- the store that a call leaves
 abbrev pub leavesStore : StoreCall → List ℕ → List ℕ
-leavesStore (keep name file) store = keepLeaves store name file
+leavesStore (keep caller name file) store = keepLeaves caller store name file
 leavesStore (return name buffer) store = store
 leavesStore (forget name) store = forgetLeaves store name
 
@@ -79,7 +82,7 @@ leavesStore (forget name) store = forgetLeaves store name
 
 -- what a call leaves under a name where it found `before`: a keep of that name its file, a forget nothing, unless it is refused
 abbrev pub leavesUnder : List ℕ → StoreCall → List ℕ → Option (List ℕ) → Option (List ℕ)
-leavesUnder name (keep other file) store before = cond (sameBytes other name && accepted (keepAnswer store other file)) (some file) before
+leavesUnder name (keep caller other file) store before = cond (sameBytes other name && accepted (keepAnswer caller store other file)) (some file) before
 leavesUnder name (return other buffer) store before = before
 leavesUnder name (forget other) store before = cond (sameBytes other name && accepted (forgetAnswer store other)) none before
 

@@ -13,6 +13,7 @@ use lib.Dec.{leb, ltb, eqb}
 use lib.ListN.{length, take, drop}
 use Rattle.arith.specs.Sums.{upTo}
 use Rattle.refusal.specs.Refused.{accepted}
+use Rattle.limits.specs.declared.Caller.the-variants.{Bench}
 use Rattle.particle.specs.Layout.{recordLength}
 use Rattle.particles.specs.Set.{setLength}
 use Rattle.bath_file.specs.Layout.{headerLength}
@@ -51,10 +52,10 @@ fileLength room = headerLength + recordLength * headerIn (take headerLength room
 unfoldable pub fileIn : List ℕ → List ℕ
 fileIn place = take (fileLength (roomIn place)) (roomIn place)
 
--- a room with one bath file that the bench accepts, and zeros after it
+-- a room with one bath file that the bench accepts, whoever calls, and zeros after it
 unfoldable pub validRoom : List ℕ → Bool
 validRoom room =
-    (leb (fileLength room) (length room) && accepted (fileAnswer (take (fileLength room) room)))
+    (leb (fileLength room) (length room) && accepted (fileAnswer Bench (take (fileLength room) room)))
     && allZero (drop (fileLength room) room)
 
 unfoldable pub occupied : List ℕ → Bool

@@ -1,5 +1,5 @@
--- Document 02, Paper 8: keep, return and forget. What each answers for any name and any buffers, and what it leaves in the store
--- and in the buffer: a refused call changes nothing. Assumes nothing.
+-- Document 02, Papers 8 and 9: keep, return and forget. What each answers for any name and any buffers, and what it leaves in the
+-- store and in the buffer: a refused call changes nothing. Assumes nothing.
 use mathlib.Core.Path.{_≡_}
 use mathlib.Core.Bool.{Bool, not, cond, _&&_}
 use mathlib.Core.List.{List, [], _++_}
@@ -9,6 +9,7 @@ use lib.Dec.{leb, ltb}
 use lib.ListN.{length, drop}
 use Rattle.arith.specs.Lists.{placed}
 use Rattle.refusal.specs.Refused.{Answer, result, refused, refusedBy, refuseIf, andThen, either, toldOf, done}
+use Rattle.limits.specs.declared.Caller.{Caller}
 use Rattle.bath_file.specs.File.{fileAnswer}
 use Rattle.store.specs.declared.Changed.{Changed}
 use Rattle.store.specs.declared.Changed.the-variants as changed
@@ -35,16 +36,16 @@ placeFor store name = cond (ltb (placeOf store name) placeCount) (placeOf store 
 unfoldable pub keptPlace : List ℕ → List ℕ → List ℕ
 keptPlace name file = padded nameLength name ++ padded mostFile file
 
--- 1; 22; the bath's own checks; 24 four other names are held; the result is the place
-unfoldable pub keepAnswer : List ℕ → List ℕ → List ℕ → Answer ℕ
-keepAnswer store name file =
+-- 1; 22; the bath's own checks, by the caller's limits; 24 four other names are held; the result is the place
+unfoldable pub keepAnswer : Caller → List ℕ → List ℕ → List ℕ → Answer ℕ
+keepAnswer caller store name file =
     checkedCall (validStore store) name
-    (andThen (fileAnswer file)
+    (andThen (fileAnswer caller file)
     (λ _. refuseIf (not (ltb (placeFor store name) placeCount)) 24 0 (result (placeFor store name))))
 
-unfoldable pub keepLeaves : List ℕ → List ℕ → List ℕ → List ℕ
-keepLeaves store name file =
-    either (keepAnswer store name file) (λ k. withPlace store k (keptPlace name file)) (λ n k. store)
+unfoldable pub keepLeaves : Caller → List ℕ → List ℕ → List ℕ → List ℕ
+keepLeaves caller store name file =
+    either (keepAnswer caller store name file) (λ k. withPlace store k (keptPlace name file)) (λ n k. store)
 
 -- ---- return
 
@@ -93,9 +94,9 @@ lengthOf a = andThen a (λ file. result (length file))
 
 -- ---- the promises: what is told, and what is left
 
-pub record KeepIs (store name file : List ℕ) (told : Answer Unit) (left : List ℕ) : Type 0 where
-  pub answer : told ≡ toldOf (keepAnswer store name file)
-  pub store-is : left ≡ keepLeaves store name file
+pub record KeepIs (caller : Caller) (store name file : List ℕ) (told : Answer Unit) (left : List ℕ) : Type 0 where
+  pub answer : told ≡ toldOf (keepAnswer caller store name file)
+  pub store-is : left ≡ keepLeaves caller store name file
 
 pub record ReturnIs (store name buffer : List ℕ) (told : Answer ℕ) (left : List ℕ) : Type 0 where
   pub answer : told ≡ lengthOf (returnAnswer store name buffer)

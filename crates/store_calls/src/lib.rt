@@ -1,5 +1,6 @@
 // Keep, return and forget: a bath file into a store under a name, out of it again, and gone.
 use bath_file::FileRead;
+use limits::Caller;
 use refusal::Refusal;
 use store::Changed;
 use store::MOST_FILE;
@@ -41,23 +42,23 @@ fn keep_file(store: &mut [u8], name: &[u8], file: &[u8]) -> Changed
 }
 
 // Keeps a file under a name that has passed its checks, in a store that has passed them. `keep` calls it.
-fn keep_named(store: &mut [u8], name: &[u8], file: &[u8]) -> Changed
+fn keep_named(caller: Caller, store: &mut [u8], name: &[u8], file: &[u8]) -> Changed
     requires { ⌜ Begun (now store) (now name) ⌝ }
-    ensures { λ r. ⌜ KeepIs (now (store .entry)) (now (name .entry)) (now (file .entry)) (toldChanged r) (now (store .exit)) ⌝ }
+    ensures { λ r. ⌜ KeepIs caller (now (store .entry)) (now (name .entry)) (now (file .entry)) (toldChanged r) (now (store .exit)) ⌝ }
 {
-    match file_reader::read_file(file) {
+    match file_reader::read_file(caller, file) {
         FileRead::Refused(refusal) => Changed::Refused(refusal),
         FileRead::Accepted(_) => keep_file(store, name, file),
     }
 }
 
-// Keep: a bath file under a name, in the place that has the name, or else in the lowest that is free.
-pub fn keep(store: &mut [u8], name: &[u8], file: &[u8]) -> Changed
-    ensures { λ r. ⌜ KeepIs (now (store .entry)) (now (name .entry)) (now (file .entry)) (toldChanged r) (now (store .exit)) ⌝ }
+// Keep: a bath file within the caller's limits, under a name, in the place that has the name, or else in the lowest that is free.
+pub fn keep(caller: Caller, store: &mut [u8], name: &[u8], file: &[u8]) -> Changed
+    ensures { λ r. ⌜ KeepIs caller (now (store .entry)) (now (name .entry)) (now (file .entry)) (toldChanged r) (now (store .exit)) ⌝ }
 {
     match begin(store_form::valid_store(store), name) {
         Changed::Refused(refusal) => Changed::Refused(refusal),
-        Changed::Done => keep_named(store, name, file),
+        Changed::Done => keep_named(caller, store, name, file),
     }
 }
 

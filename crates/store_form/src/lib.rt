@@ -1,6 +1,7 @@
 // The form of a store: each place by itself, and that no name stands in two.
 use bath_file::FileRead;
 use bath_file::HEADER_LENGTH;
+use limits::Caller;
 use particle::RECORD_LENGTH;
 use store::NAME_LENGTH;
 use store::PLACE_COUNT;
@@ -24,7 +25,7 @@ pub fn file_length(room: &[u8]) -> usize
     HEADER_LENGTH + RECORD_LENGTH * h.count
 }
 
-// A room has one file that is accepted, and zeros after it. `occupied` calls it with the room of a place.
+// A room has one file that the bench accepts, and zeros after it. `occupied` calls it with the room of a place.
 fn valid_room(room: &[u8]) -> bool
     requires { ⌜ headerLength ≤ length (now room) ⌝ }
     ensures { λ r. ⌜ r ≡ validRoom (now (room .entry)) ⌝ }
@@ -33,7 +34,7 @@ fn valid_room(room: &[u8]) -> bool
     if room.len() < end {
         return false;
     }
-    match file_reader::read_file(&room[..end]) {
+    match file_reader::read_file(Caller::Bench, &room[..end]) {
         FileRead::Refused(_) => false,
         FileRead::Accepted(_) => store_bytes::all_zero(&room[end..]),
     }

@@ -4,6 +4,7 @@ use mathlib.Core.List.{List, [], _∷_}
 use Prim.Native.Nat.{ℕ}
 use lib.IntN.{ℤ, pos}
 use Rattle.refusal.specs.Refused.{Answer, result, refusedBy, andThen}
+use Rattle.limits.specs.declared.Caller.{Caller}
 use Rattle.spline.specs.Spline.{D}
 use Rattle.particle.specs.declared.Particle.{Particle}
 use Rattle.apic.specs.Step.{alongX, alongY}
@@ -28,8 +29,8 @@ totalsOf ps =
 abbrev pub sums : Totals → List ℤ
 sums t = t .mass ∷ t .px ∷ t .py ∷ t .spin ∷ t .motion ∷ t .marks ∷ []
 
-abbrev pub totalsAnswer : ℕ → ℕ → List ℕ → Answer Totals
-totalsAnswer nx ny bytes = andThen (setAnswer nx ny bytes) (λ ps. result (totalsOf ps))
+abbrev pub totalsAnswer : Caller → ℕ → ℕ → List ℕ → Answer Totals
+totalsAnswer caller nx ny bytes = andThen (setAnswer caller nx ny bytes) (λ ps. result (totalsOf ps))
 
 abbrev pub toldTotalled : Totalled → Answer Totals
 toldTotalled (totalled.Sums t) = result t

@@ -1,4 +1,7 @@
 // Totals: the sums over a particle set whose records are checked on the way.
+use entry::Begun;
+use entry::Buffers;
+use limits::Caller;
 use particle::Particle;
 use particle::RECORD_LENGTH;
 use particle::Read;
@@ -94,14 +97,17 @@ fn walk(nx: usize, ny: usize, bytes: &[u8], start: usize, count: usize) -> Total
 }
 
 // Totals of a set.
-pub fn set_totals(nx: usize, ny: usize, records: &[u8]) -> Totalled
-    ensures { λ r. ⌜ toldTotalled r ≡ totalsAnswer nx ny (now (records .entry)) ⌝ }
+pub fn set_totals(caller: Caller, nx: usize, ny: usize, records: &[u8]) -> Totalled
+    ensures { λ r. ⌜ toldTotalled r ≡ totalsAnswer caller nx ny (now (records .entry)) ⌝ }
 {
-    if !particles::size_is_valid(nx, ny) {
-        return Totalled::Refused(Refusal::GridSize);
+    match entry::begin(
+        caller,
+        settings::still(nx, ny),
+        Buffers::None,
+        0,
+        records.len(),
+    ) {
+        Begun::Refused(refusal) => Totalled::Refused(refusal),
+        Begun::Done => walk(nx, ny, records, 0, records.len() / RECORD_LENGTH),
     }
-    if !particles::length_is_valid(records.len()) {
-        return Totalled::Refused(Refusal::Length);
-    }
-    walk(nx, ny, records, 0, records.len() / RECORD_LENGTH)
 }

@@ -17,6 +17,8 @@ use borrow.Author.Tests.{eqb-true}
 use Rattle.refusal.specs.Refused.{Answer, result, refused, andThen, done, toldOf}
 use Rattle.refusal.proofs.Answers.{went-on, refused-leaves, done-leaves}
 use Rattle.arith.specs.Rounding.{rounded}
+use Rattle.limits.specs.declared.Caller.{Caller}
+use Rattle.limits.specs.declared.Caller.the-variants.{Bench}
 use Rattle.spline.specs.Spline.{axisWeight}
 use Rattle.spline.specs.Kernel.{weightIn, BuiltIn}
 use Rattle.spline.proofs.Spline.{built-in-weights}
@@ -91,17 +93,17 @@ module _ {nx ny : ℕ} {records : List ℕ} {ux uy target : List ℤ} {r : Gathe
 
 -- ---- the checks before any particle moves
 
-module _ (nx ny : ℕ) (records : List ℕ) (ux uy : List ℤ) where
+module _ (caller : Caller) (nx ny : ℕ) (records : List ℕ) (ux uy : List ℤ) where
   -- the answer at entry
   abbrev entry : Answer (List Particle)
-  entry = entryAnswer (still nx ny) (Two (length ux) (length uy)) 0 records
+  entry = entryAnswer caller (still nx ny) (Two (length ux) (length uy)) 0 records
 
   lengths-of : {ps : List Particle} → entry ≡ result ps → (length ux ≡ nx * ny) × (length uy ≡ nx * ny)
   lengths-of e =
-      let b = and-true (eqb (length ux) (nx * ny)) (eqb (length uy) (nx * ny)) (accepted _ _ 0 records e .long) in
+      let b = and-true (eqb (length ux) (nx * ny)) (eqb (length uy) (nx * ny)) (accepted caller _ _ 0 records e .long) in
       (eqb-true (length ux) (nx * ny) (b .0), eqb-true (length uy) (nx * ny) (b .1))
 
-  pub bad-entry : {n k : ℕ} → entry ≡ refused n k → checkedSet nx ny records ux uy ≡ refused n k
+  pub bad-entry : {n k : ℕ} → entry ≡ refused n k → checkedSet caller nx ny records ux uy ≡ refused n k
   unfolding checkedSet
   bad-entry e = ap (λ a. andThen a (λ ps. andThen (velocityChecks (nx * ny) ux uy) (λ _. result ps))) e
 
@@ -109,7 +111,7 @@ module _ (nx ny : ℕ) (records : List ℕ) (ux uy : List ℤ) where
     pub same-count : length uy ≡ length ux
     same-count = let l = lengths-of e in l .1 ∙ sym (l .0)
 
-    pub by-velocities : toldOf (checkedSet nx ny records ux uy) ≡ velocityChecks (length ux) ux uy
+    pub by-velocities : toldOf (checkedSet caller nx ny records ux uy) ≡ velocityChecks (length ux) ux uy
     unfolding checkedSet
     by-velocities =
         ap (λ a. toldOf (andThen a (λ ps. andThen (velocityChecks (nx * ny) ux uy) (λ _. result ps)))) e
@@ -122,15 +124,15 @@ module _ (nx ny : ℕ) (records : List ℕ) (ux uy : List ℤ) where
 
   -- ---- the operation, by those checks
 
-  pub stopped : {n k : ℕ} → checkedSet nx ny records ux uy ≡ refused n k → Moves (gatherAnswer nx ny records ux uy) records (refused n k) records
+  pub stopped : {n k : ℕ} → checkedSet caller nx ny records ux uy ≡ refused n k → Moves (gatherAnswer caller nx ny records ux uy) records (refused n k) records
   stopped e = refused-leaves (ap (λ a. andThen a (λ ps. moveAnswer nx ny ux uy ps)) e)
 
-  module _ {ps : List Particle} (e : checkedSet nx ny records ux uy ≡ result ps) where
-    pub set-accepted : setAnswer nx ny records ≡ result ps
+  module _ {ps : List Particle} (e : checkedSet caller nx ny records ux uy ≡ result ps) where
+    pub set-accepted : setAnswer Bench nx ny records ≡ result ps
     unfolding checkedSet
     set-accepted =
         let a = went-on entry _ e in
-        accepted _ _ 0 records (a .1) .set ∙ went-on (velocityChecks (nx * ny) ux uy) _ (a .2) .2
+        accepted caller _ _ 0 records (a .1) .set ∙ went-on (velocityChecks (nx * ny) ux uy) _ (a .2) .2
 
     pub gather-set : GatherSet nx ny records ux uy
     unfolding checkedSet
@@ -147,7 +149,7 @@ module _ (nx ny : ℕ) (records : List ℕ) (ux uy : List ℤ) where
           y-velocities = v .1;
         }
 
-    pub moved-on : {t : Answer Unit} {records′ : List ℕ} → Moves (moveAnswer nx ny ux uy (particlesIn records)) records t records′ → Moves (gatherAnswer nx ny records ux uy) records t records′
+    pub moved-on : {t : Answer Unit} {records′ : List ℕ} → Moves (moveAnswer nx ny ux uy (particlesIn records)) records t records′ → Moves (gatherAnswer caller nx ny records ux uy) records t records′
     unfolding gather-set
     moved-on {t} {records′} m =
         subst (λ b. Moves b records t records′)

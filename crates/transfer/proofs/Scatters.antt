@@ -14,6 +14,7 @@ use lib.Seq.{take-all}
 use lib.IntN.{ℤ, pos}
 use Rattle.refusal.specs.Refused.{result, done}
 use Rattle.refusal.proofs.Answers.{done-leaves}
+use Rattle.limits.specs.declared.Caller.{Caller}
 use Rattle.spline.specs.Spline.{axisWeight, D}
 use Rattle.spline.specs.Kernel.{weightIn, BuiltIn}
 use Rattle.spline.proofs.Spline.{built-in-kernel, built-in-weights}
@@ -110,15 +111,15 @@ built-in-scattered {nx} {ny} {ps} {mass = mass} {px = px} {py = py} t h =
 
 -- ---- the operation
 
-module _ (nx ny : ℕ) (mass : List ℕ) (px py : List ℤ) where
-  module _ (records : List ℕ) {ps : List Particle} (e : scatterAnswer nx ny records (length mass) (length px) (length py) ≡ result ps) where
+module _ (caller : Caller) (nx ny : ℕ) (mass : List ℕ) (px py : List ℤ) where
+  module _ (records : List ℕ) {ps : List Particle} (e : scatterAnswer caller nx ny records (length mass) (length px) (length py) ≡ result ps) where
     pub scatter-set : ScatterSet nx ny records mass px py
     scatter-set =
-        let a = accepted (still nx ny) (Three (length mass) (length px) (length py)) 0 records e in
+        let a = accepted caller (still nx ny) (Three (length mass) (length px) (length py)) 0 records e in
         let l = long-three (nx * ny) (length mass) (length px) (length py) (a .long) in
         record { particles = ps; set = a .set; mass-long = l .mass-is; px-long = l .x-is; py-long = l .y-is }
 
-    pub done-fills : {mass′ : List ℕ} {px′ py′ : List ℤ} → ScatteredGrids axisWeight D nx ny (particlesIn records) mass′ px′ py′ → Fills nx ny (scatterAnswer nx ny records (length mass) (length px) (length py)) mass px py done mass′ px′ py′
+    pub done-fills : {mass′ : List ℕ} {px′ py′ : List ℤ} → ScatteredGrids axisWeight D nx ny (particlesIn records) mass′ px′ py′ → Fills nx ny (scatterAnswer caller nx ny records (length mass) (length px) (length py)) mass px py done mass′ px′ py′
     unfolding scatter-set
     done-fills h =
         done-leaves (e ∙ ap result (sym (particlesIn-accepted nx ny records (scatter-set .set))))

@@ -7,6 +7,7 @@ use lib.ListN.{length}
 use lib.IntN.{ℤ}
 use Rattle.refusal.specs.Refused.{result}
 use Rattle.limits.specs.Limits.{mostRecords}
+use Rattle.limits.specs.declared.Caller.the-variants.{Bench}
 use Rattle.spline.specs.Kernel.{Kernel}
 use Rattle.particle.specs.declared.Particle.{Particle}
 use Rattle.particle.specs.Layout.{recordLength}
@@ -27,7 +28,7 @@ part = 64
 -- a set that is accepted on this grid, and grids of its size
 pub record ScatterSet (nx ny : ℕ) (records mass : List ℕ) (px py : List ℤ) : Type 0 where
   pub particles : List Particle
-  pub set : setAnswer nx ny records ≡ result particles
+  pub set : setAnswer Bench nx ny records ≡ result particles
   pub mass-long : length mass ≡ nx * ny
   pub px-long : length px ≡ nx * ny
   pub py-long : length py ≡ nx * ny
@@ -56,7 +57,7 @@ pub record PartReady (nx ny : ℕ) (records : List ℕ) (table : List (List ℕ)
 -- a set that is accepted on this grid, and node velocities within their limits
 pub record GatherSet (nx ny : ℕ) (records : List ℕ) (ux uy : List ℤ) : Type 0 where
   pub particles : List Particle
-  pub set : setAnswer nx ny records ≡ result particles
+  pub set : setAnswer Bench nx ny records ≡ result particles
   pub most : length records ≤ setLength
   pub x-velocities : NodeVelocities nx ny ux
   pub y-velocities : NodeVelocities nx ny uy

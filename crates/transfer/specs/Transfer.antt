@@ -1,5 +1,5 @@
--- Document 01, operations "Scatter" and "Gather": what each answers for any numbers and any buffers, and what the buffers hold
--- afterwards. The sums are those of "The step", scatter and gather. Assumes nothing.
+-- Document 01, operations "Scatter" and "Gather": what each answers to a caller for any numbers and any buffers, and what the buffers
+-- hold afterwards. The sums are those of "The step", scatter and gather. Assumes nothing.
 use mathlib.Core.Bool.{not}
 use mathlib.Core.List.{List, map}
 use Prim.Native.Nat.{ℕ, _*_}
@@ -7,6 +7,7 @@ use lib.ListN.{length, getD}
 use lib.IntN.{ℤ, pos, natAbs}
 use Rattle.refusal.specs.Refused.{Answer, result, refusedBy, refuseIf, andThen, done, forEach, Leaves}
 use Rattle.limits.specs.Limits.{mostNodeVelocity}
+use Rattle.limits.specs.declared.Caller.{Caller}
 use Rattle.spline.specs.Spline.{axisWeight, D}
 use Rattle.particle.specs.declared.Particle.{Particle}
 use Rattle.apic.specs.Step.{alongX, alongY, nodeMass, nodeMomentum, Grids, gridsOf, grid}
@@ -32,8 +33,8 @@ toldMoved (moved.Refused e) = refusedBy e
 -- ---- scatter
 
 -- the result is the particles of the set; the buffers are given by their lengths
-abbrev pub scatterAnswer : ℕ → ℕ → List ℕ → ℕ → ℕ → ℕ → Answer (List Particle)
-scatterAnswer nx ny records mass px py = entryAnswer (still nx ny) (Three mass px py) 0 records
+abbrev pub scatterAnswer : Caller → ℕ → ℕ → List ℕ → ℕ → ℕ → ℕ → Answer (List Particle)
+scatterAnswer caller nx ny records mass px py = entryAnswer caller (still nx ny) (Three mass px py) 0 records
 
 -- the masses and momenta of particles
 abbrev pub scatterOf : ℕ → ℕ → List Particle → Grids
@@ -45,9 +46,9 @@ scatterOf nx ny ps =
 abbrev pub Fills : ℕ → ℕ → Answer (List Particle) → List ℕ → List ℤ → List ℤ → Answer Unit → List ℕ → List ℤ → List ℤ → Type 0
 Fills nx ny a mass px py told mass′ px′ py′ = Leaves a (scatterOf nx ny) (gridsOf mass px py) told (gridsOf mass′ px′ py′)
 
-abbrev pub ScatterIs : ℕ → ℕ → List ℕ → List ℕ → List ℤ → List ℤ → Answer Unit → List ℕ → List ℤ → List ℤ → Type 0
-ScatterIs nx ny records mass px py told mass′ px′ py′ =
-    Fills nx ny (scatterAnswer nx ny records (length mass) (length px) (length py)) mass px py told mass′ px′ py′
+abbrev pub ScatterIs : Caller → ℕ → ℕ → List ℕ → List ℕ → List ℤ → List ℤ → Answer Unit → List ℕ → List ℤ → List ℤ → Type 0
+ScatterIs caller nx ny records mass px py told mass′ px′ py′ =
+    Fills nx ny (scatterAnswer caller nx ny records (length mass) (length px) (length py)) mass px py told mass′ px′ py′
 
 -- ---- gather
 
@@ -58,22 +59,22 @@ velocityCheck ux uy k = refuseIf (not (bothWithin mostNodeVelocity (getD ux k (p
 unfoldable pub velocityChecks : ℕ → List ℤ → List ℤ → Answer Unit
 velocityChecks n ux uy = forEach (velocityCheck ux uy) 0 n
 
--- 2; 1, also for the velocity buffers; the set; 12 for each node
-unfoldable pub checkedSet : ℕ → ℕ → List ℕ → List ℤ → List ℤ → Answer (List Particle)
-checkedSet nx ny records ux uy =
-    andThen (entryAnswer (still nx ny) (Two (length ux) (length uy)) 0 records)
+-- 2; 1, also for the velocity buffers; 3; the set; 12 for each node
+unfoldable pub checkedSet : Caller → ℕ → ℕ → List ℕ → List ℤ → List ℤ → Answer (List Particle)
+checkedSet caller nx ny records ux uy =
+    andThen (entryAnswer caller (still nx ny) (Two (length ux) (length uy)) 0 records)
     (λ ps. andThen (velocityChecks (nx * ny) ux uy) (λ _. result ps))
 
 -- then for each record 13, 14, 15; the result is the moved particles
 abbrev pub moveAnswer : ℕ → ℕ → List ℤ → List ℤ → List Particle → Answer (List Particle)
 moveAnswer nx ny ux uy ps = moveChecks nx ny (gathered axisWeight nx ny ux uy) 0 ps (result (map (gathered axisWeight nx ny ux uy) ps))
 
-abbrev pub gatherAnswer : ℕ → ℕ → List ℕ → List ℤ → List ℤ → Answer (List Particle)
-gatherAnswer nx ny records ux uy = andThen (checkedSet nx ny records ux uy) (λ ps. moveAnswer nx ny ux uy ps)
+abbrev pub gatherAnswer : Caller → ℕ → ℕ → List ℕ → List ℤ → List ℤ → Answer (List Particle)
+gatherAnswer caller nx ny records ux uy = andThen (checkedSet caller nx ny records ux uy) (λ ps. moveAnswer nx ny ux uy ps)
 
 -- what is told of an answer, and the records that are left: those of its particles, or what they were
 abbrev pub Moves : Answer (List Particle) → List ℕ → Answer Unit → List ℕ → Type 0
 Moves a records told records′ = Leaves a recordsOf records told records′
 
-abbrev pub GatherIs : ℕ → ℕ → List ℕ → List ℤ → List ℤ → Answer Unit → List ℕ → Type 0
-GatherIs nx ny records ux uy told records′ = Moves (gatherAnswer nx ny records ux uy) records told records′
+abbrev pub GatherIs : Caller → ℕ → ℕ → List ℕ → List ℤ → List ℤ → Answer Unit → List ℕ → Type 0
+GatherIs caller nx ny records ux uy told records′ = Moves (gatherAnswer caller nx ny records ux uy) records told records′

@@ -24,6 +24,7 @@ use Rattle.particles.proofs.Checks.{taken, entered, length-limits}
 use Rattle.particles.proofs.Accepted.{accepted-limits}
 use Rattle.unpacked.specs.Unpacked.{unpacked, Holds}
 use Rattle.arith.specs.Lists.{getD-tabulated, length-tabulated}
+use Rattle.limits.specs.declared.Caller.the-variants.{Bench}
 use Rattle.unpacking.specs.Internal.{Narrow}
 
 module _ (nx ny : ℕ) (bytes : List ℕ) where
@@ -36,9 +37,9 @@ module _ (nx ny : ℕ) (bytes : List ℕ) where
       ∙ ap (λ ps. t .head ∷ ps) (walk-particles left (suc k) (suc (t .head .identifier)) (mass + t .head .mass) (t .rest))
       ∙ t .is
 
-  pub particlesIn-accepted : {ps : List Particle} → setAnswer nx ny bytes ≡ result ps → particlesIn bytes ≡ ps
+  pub particlesIn-accepted : {ps : List Particle} → setAnswer Bench nx ny bytes ≡ result ps → particlesIn bytes ≡ ps
   unfolding particlesIn
-  particlesIn-accepted e = walk-particles (recordCount bytes) 0 0 0 (entered nx ny bytes e .set)
+  particlesIn-accepted e = walk-particles (recordCount bytes) 0 0 0 (entered Bench nx ny bytes e .set)
 
 module _ (bytes : List ℕ) where
   pub count-in : length (particlesIn bytes) ≡ recordCount bytes
@@ -62,7 +63,7 @@ narrow bytes =
     let holds = fields-hold bytes in
     record { mass = omega (arith, holds field.mass); x = omega (arith, holds field.x); y = omega (arith, holds field.y) }
 
-module _ (nx ny : ℕ) (bytes : List ℕ) {ps : List Particle} (e : setAnswer nx ny bytes ≡ result ps) where
+module _ (nx ny : ℕ) (bytes : List ℕ) {ps : List Particle} (e : setAnswer Bench nx ny bytes ≡ result ps) where
   pub unpacked-accepted : Holds nx ny (unpacked (particlesIn bytes)) (particlesIn bytes)
   unpacked-accepted =
       subst (λ qs. Holds nx ny (unpacked qs) qs) (sym (particlesIn-accepted nx ny bytes e))
@@ -70,5 +71,5 @@ module _ (nx ny : ℕ) (bytes : List ℕ) {ps : List Particle} (e : setAnswer nx
 
   pub set-length : length bytes ≤ setLength
   set-length =
-      let l = length-limits (length bytes) (entered nx ny bytes e .whole) in
+      let l = length-limits (length bytes) (entered Bench nx ny bytes e .whole) in
       omega (arith, l .whole, l .count)

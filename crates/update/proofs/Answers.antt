@@ -1,20 +1,22 @@
 -- The answer of "Update", by the checks at entry and the nodes, and that nothing is refused where settings and nodes keep
 -- their limits.
 -- Assumes nothing.
-use mathlib.Core.Path.{_≡_, refl, ap, ap₂, _∙_}
-use mathlib.Core.Bool.{_&&_}
+use mathlib.Core.Path.{_≡_, refl, ap, _∙_}
+use mathlib.Core.Bool.{true}
 use mathlib.Core.List.{List}
-use Prim.Native.Nat.{ℕ, _*_}
+use Prim.Native.Nat.{ℕ, _*_, zero-le}
 use native.Mathlib.Omega.{arith}
 use lib.ListN.{length}
 use lib.IntN.{ℤ}
-use borrow.Author.Tests.{le-leb}
+use borrow.Author.Tests.{le-ltb}
 use Rattle.refusal.specs.Refused.{Answer, andThen, done}
 use Rattle.refusal.proofs.Answers.{done-leaves}
-use Rattle.limits.specs.Limits.{leastSide, mostSide}
+use Rattle.limits.specs.declared.Caller.{Caller}
+use Rattle.limits.specs.Limits.{mostSideOf, mostRecordsOf}
 use Rattle.spline.specs.Spline.{D}
 use Rattle.spline.proofs.Table.{spline-spread}
 use Rattle.apic.specs.Step.{alongX, alongY}
+use Rattle.particles.specs.Set.{validSize}
 use Rattle.particles.proofs.Checks.{size-limits}
 use Rattle.settings.specs.declared.Settings.{Settings}
 use Rattle.settings.specs.Settings.{ForceLimits}
@@ -28,29 +30,29 @@ use Rattle.update.proofs.Walk.{limits-nodes, nodes-limits}
 
 -- ---- the answer
 
-module _ (s : Settings) (mass : List ℕ) (px py : List ℤ) where
-  abbrev pub buffers : Buffers
-  buffers = Three (length mass) (length px) (length py)
+abbrev pub buffers : List ℕ → List ℤ → List ℤ → Buffers
+buffers mass px py = Three (length mass) (length px) (length py)
 
-  abbrev pub nodeAnswers : Answer Unit
-  nodeAnswers = checkNodes D (s .nx * s .ny) (s .gx) (s .gy) mass px py
+abbrev pub nodeAnswers : Settings → List ℕ → List ℤ → List ℤ → Answer Unit
+nodeAnswers s mass px py = checkNodes D (s .nx * s .ny) (s .gx) (s .gy) mass px py
 
-  pub by-entry : {a : Answer Unit} → beginAnswer s buffers 0 0 ≡ a → updateAnswer s mass px py ≡ andThen a (λ _. nodeAnswers)
+module _ (caller : Caller) (s : Settings) (mass : List ℕ) (px py : List ℤ) where
+  pub by-entry : {a : Answer Unit} → beginAnswer caller s (buffers mass px py) 0 0 ≡ a → updateAnswer caller s mass px py ≡ andThen a (λ _. nodeAnswers s mass px py)
   unfolding updateAnswer
-  by-entry e = ap (λ a. andThen a (λ _. nodeAnswers)) e
+  by-entry e = ap (λ a. andThen a (λ _. nodeAnswers s mass px py)) e
 
   -- ---- with the grids
 
-  pub done-is : {ux uy : List ℤ} → updateAnswer s mass px py ≡ done → ux ≡ velocities D s alongX mass px → uy ≡ velocities D s alongY mass py → UpdateIs s mass px py done ux uy
+  pub done-is : {ux uy : List ℤ} → updateAnswer caller s mass px py ≡ done → ux ≡ velocities D s alongX mass px → uy ≡ velocities D s alongY mass py → UpdateIs caller s mass px py done ux uy
   done-is e x y = done-leaves e (λ i. bothAxes (x i) (y i))
 
   -- ---- the limits
 
-  pub grid-limits : Passed s buffers 0 0 → ForceLimits s → nodeAnswers ≡ done → GridLimits D s mass px py
+  pub grid-limits : Passed caller s (buffers mass px py) 0 0 → ForceLimits s → nodeAnswers s mass px py ≡ done → GridLimits D s mass px py
   grid-limits t forces e =
       let l = long-three (s .nx * s .ny) (length mass) (length px) (length py) (t .long) in
       record {
-        sizes = size-limits (s .nx) (s .ny) (t .size);
+        sizes = size-limits caller (s .nx) (s .ny) (t .size);
         forces = forces;
         within =
             record {
@@ -65,14 +67,15 @@ module _ (s : Settings) (mass : List ℕ) (px py : List ℤ) where
       }
 
   -- nothing is refused where the limits are kept: for the step
-  pub update-accepts : GridLimits D s mass px py → updateAnswer s mass px py ≡ done
-  update-accepts g =
+  pub update-accepts : validSize (mostSideOf caller) (s .nx) (s .ny) ≡ true → GridLimits D s mass px py → updateAnswer caller s mass px py ≡ done
+  update-accepts size g =
       by-entry
-      (begins s buffers 0 0
+      (begins caller s (buffers mass px py) 0 0
       (record {
-        size = ap₂ _&&_ (ap₂ _&&_ (le-leb leastSide (s .nx) (g .sizes .x-least)) (le-leb (s .nx) mostSide (g .sizes .x-most))) (ap₂ _&&_ (le-leb leastSide (s .ny) (g .sizes .y-least)) (le-leb (s .ny) mostSide (g .sizes .y-most)));
+        size = size;
         whole = refl;
         long = three-long (record { mass-is = g .within .mass-length; x-is = g .within .px-length; y-is = g .within .py-length });
+        few = le-ltb (mostRecordsOf caller) 0 zero-le;
       })
       (forces-pass s (g .forces) done)
       (omega arith))

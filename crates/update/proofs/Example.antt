@@ -7,6 +7,7 @@ use lib.ListN.{replicate, set}
 use lib.IntN.{ℤ, pos, negsuc}
 use Rattle.refusal.specs.Refused.{Answer, refused, done}
 use Rattle.arith.specs.Rounding.{nearest, rounded}
+use Rattle.limits.specs.declared.Caller.the-variants.{Bench}
 use Rattle.spline.specs.Spline.{D}
 use Rattle.apic.specs.Step.{Axis, alongX, alongY, nodeVelocity, afterDrag, updatedVelocity}
 use Rattle.settings.specs.declared.Edge.{Edge}
@@ -19,7 +20,7 @@ use Rattle.update.specs.Update.{checkNode, checkNodes, velocities, updat
 abbrev plain : ℤ → ℤ → Settings
 plain gx gy = record { nx = 4; ny = 5; gx = gx; gy = gy; edge = Open; drag = 0 }
 
-halves : (updateAnswer (plain (pos 0) (pos 0)) (replicate 20 1) (replicate 20 (pos 2)) (replicate 20 (negsuc 5)) ≡ done) × ((velocities D (plain (pos 0) (pos 0)) alongX (replicate 20 1) (replicate 20 (pos 2)) ≡ replicate 20 (pos 0)) × (velocities D (plain (pos 0) (pos 0)) alongY (replicate 20 1) (replicate 20 (negsuc 5)) ≡ replicate 20 (negsuc 1)))
+halves : (updateAnswer Bench (plain (pos 0) (pos 0)) (replicate 20 1) (replicate 20 (pos 2)) (replicate 20 (negsuc 5)) ≡ done) × ((velocities D (plain (pos 0) (pos 0)) alongX (replicate 20 1) (replicate 20 (pos 2)) ≡ replicate 20 (pos 0)) × (velocities D (plain (pos 0) (pos 0)) alongY (replicate 20 1) (replicate 20 (negsuc 5)) ≡ replicate 20 (negsuc 1)))
 unfolding nearest nodeVelocity afterDrag updatedVelocity checkNode checkNodes velocities checkedForces beginAnswer updateAnswer
 halves = (refl, (refl, refl))
 
@@ -27,11 +28,11 @@ without-mass : velocities D (plain (pos 7) (pos 9)) alongX (set (replicate 20 1)
 unfolding nearest nodeVelocity afterDrag updatedVelocity velocities
 without-mass = refl
 
-too-heavy : updateAnswer (plain (pos 0) (pos 0)) (set (replicate 20 1) 5 8796093022209) (replicate 20 (pos 2)) (replicate 20 (negsuc 1)) ≡ refused 11 5
+too-heavy : updateAnswer Bench (plain (pos 0) (pos 0)) (set (replicate 20 1) 5 8796093022209) (replicate 20 (pos 2)) (replicate 20 (negsuc 1)) ≡ refused 11 5
 unfolding nearest nodeVelocity checkNode checkNodes checkedForces beginAnswer updateAnswer
 too-heavy = refl
 
-still-there : UpdateIs (plain (pos 0) (pos 0)) (set (replicate 20 1) 5 8796093022209) (replicate 20 (pos 2)) (replicate 20 (negsuc 1)) (refused 11 5) (replicate 20 (pos 2)) (replicate 20 (negsuc 1))
+still-there : UpdateIs Bench (plain (pos 0) (pos 0)) (set (replicate 20 1) 5 8796093022209) (replicate 20 (pos 2)) (replicate 20 (negsuc 1)) (refused 11 5) (replicate 20 (pos 2)) (replicate 20 (negsuc 1))
 unfolding nearest nodeVelocity checkNode checkNodes checkedForces beginAnswer updateAnswer
 still-there = record { answer = refl; left-is = refl }
 
@@ -72,7 +73,7 @@ forced gx edge drag = record { nx = 5; ny = 4; gx = gx; gy = pos 0; edge = edge;
 
 -- nodes of mass 1 at rest, but for node 4, a corner, on x
 abbrev answerOf : Settings → ℤ → Answer Unit
-answerOf s momentum = updateAnswer s (replicate 20 1) (set (replicate 20 (pos 0)) 4 momentum) (replicate 20 (pos 0))
+answerOf s momentum = updateAnswer Bench s (replicate 20 1) (set (replicate 20 (pos 0)) 4 momentum) (replicate 20 (pos 0))
 
 -- 12 at a node of the band: after gravity it is one beyond the limit, and would rest; at the limit it is not told
 in-the-band : (answerOf (forced (pos 1) (Sticky 1) 255) (pos 524288) ≡ refused 12 4) × (answerOf (forced (pos 1) (Sticky 1) 255) (pos 524284) ≡ done)

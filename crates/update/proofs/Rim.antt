@@ -18,6 +18,7 @@ use Rattle.arith.specs.Lists.{getD-tabulated}
 use Rattle.arith.specs.Indices.{column, line, index-below}
 use Rattle.refusal.specs.Refused.{done, either}
 use Rattle.refusal.proofs.Answers.{went-on}
+use Rattle.limits.specs.declared.Caller.{Caller}
 use Rattle.spline.specs.Spline.{D}
 use Rattle.apic.specs.Step.{Axis, alongX, alongY, inBand, holds, updatedVelocity, node}
 use Rattle.settings.specs.declared.Settings.{Settings}
@@ -50,12 +51,12 @@ module _ (s : Settings) (mass : List ℕ) (a : Axis) (momentum : List ℤ) (i j 
       at-rest : (h : Bool) (u : ℤ) → h ≡ true → cond h (pos 0) u ≡ pos 0
       at-rest h u e = ap (λ h. cond h (pos 0) u) e
 
-module _ (s : Settings) (mass : List ℕ) (px py ux uy : List ℤ) (is : UpdateIs s mass px py done ux uy) where
+module _ (caller : Caller) (s : Settings) (mass : List ℕ) (px py ux uy : List ℤ) (is : UpdateIs caller s mass px py done ux uy) where
   grids : bothAxes ux uy ≡ bothAxes (velocities D s alongX mass px) (velocities D s alongY mass py)
   grids =
       is .left-is
       ∙ ap (λ a. either a (λ _. bothAxes (velocities D s alongX mass px) (velocities D s alongY mass py)) (λ n k. bothAxes px py))
-      (went-on (updateAnswer s mass px py) (λ _. done) (sym (is .answer)) .1)
+      (went-on (updateAnswer caller s mass px py) (λ _. done) (sym (is .answer)) .1)
 
   at-x : (i j : ℕ) → i < s .nx → j < s .ny → holds (s .edge) (s .nx) (s .ny) alongX i j ≡ true → node (s .nx) ux i j ≡ pos 0
   at-x i j in-x in-y e = ap (λ g. node (s .nx) (g .x) i j) grids ∙ held s mass alongX px i j in-x in-y e

@@ -6,6 +6,7 @@ use mathlib.Core.List.{List}
 use Prim.Native.Nat.{ℕ, _+_, _≤_, _<_}
 use lib.IntN.{ℤ, pos}
 use Rattle.refusal.specs.Refused.{done}
+use Rattle.limits.specs.declared.Caller.{Caller}
 use Rattle.apic.specs.Step.{node}
 use Rattle.settings.specs.declared.Edge.the-variants.{Sticky, Slip}
 use Rattle.settings.specs.declared.Settings.{Settings}
@@ -24,4 +25,4 @@ pub record RimHeld (s : Settings) (x y : List ℤ) : Type 0 where
 -- for every update that is not refused, whatever the grids held
 abbrev pub RimHolds : Type 0
 RimHolds =
-    (s : Settings) (mass : List ℕ) (px py ux uy : List ℤ) → UpdateIs s mass px py done ux uy → RimHeld s ux uy
+    (caller : Caller) (s : Settings) (mass : List ℕ) (px py ux uy : List ℤ) → UpdateIs caller s mass px py done ux uy → RimHeld s ux uy

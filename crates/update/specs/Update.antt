@@ -1,4 +1,5 @@
--- Documents 01 and 02, operation "Update": what it answers for any numbers and any buffers, and what the grids hold afterwards.
+-- Documents 01 and 02, operation "Update": what it answers to a caller for any numbers and any buffers, and what the grids hold
+-- afterwards.
 -- The operation's D is the spline's; what stands before it is for any.
 -- Assumes nothing.
 use mathlib.Core.Path.{_≡_}
@@ -12,6 +13,7 @@ use Rattle.arith.specs.Sums.{upTo}
 use Rattle.arith.specs.Rounding.{rounded}
 use Rattle.refusal.specs.Refused.{Answer, refusedBy, refuseIf, andThen, done, forEach, Leaves}
 use Rattle.limits.specs.Limits.{mostNodeMass, mostNodeVelocity}
+use Rattle.limits.specs.declared.Caller.{Caller}
 use Rattle.spline.specs.Spline.{D}
 use Rattle.apic.specs.Step.{Axis, alongX, alongY, nodeVelocity, updatedVelocity}
 use Rattle.settings.specs.declared.Settings.{Settings}
@@ -67,9 +69,9 @@ toldUpdate Done = done
 toldUpdate (Refused e) = refusedBy e
 
 -- 2; 1 for the grid buffers; 10; 18; 19; then for each node 11, 12
-unfoldable pub updateAnswer : Settings → List ℕ → List ℤ → List ℤ → Answer Unit
-updateAnswer s mass px py =
-    andThen (beginAnswer s (Three (length mass) (length px) (length py)) 0 0)
+unfoldable pub updateAnswer : Caller → Settings → List ℕ → List ℤ → List ℤ → Answer Unit
+updateAnswer caller s mass px py =
+    andThen (beginAnswer caller s (Three (length mass) (length px) (length py)) 0 0)
     (λ _. checkNodes D (s .nx * s .ny) (s .gx) (s .gy) mass px py)
 
 -- the grids of both axes
@@ -81,7 +83,7 @@ abbrev pub bothAxes : List ℤ → List ℤ → BothAxes
 bothAxes x y = record { x = x; y = y }
 
 -- the answer of a call, and both grids as it leaves them: velocity takes the momentum's place; a refused call leaves it unchanged
-abbrev pub UpdateIs : Settings → List ℕ → List ℤ → List ℤ → Answer Unit → List ℤ → List ℤ → Type 0
-UpdateIs s mass px py told px′ py′ =
-    Leaves (updateAnswer s mass px py)
+abbrev pub UpdateIs : Caller → Settings → List ℕ → List ℤ → List ℤ → Answer Unit → List ℤ → List ℤ → Type 0
+UpdateIs caller s mass px py told px′ py′ =
+    Leaves (updateAnswer caller s mass px py)
     (λ _. bothAxes (velocities D s alongX mass px) (velocities D s alongY mass py)) (bothAxes px py) told (bothAxes px′ py′)

@@ -10,6 +10,7 @@ ghost use Rattle.update.specs.Update.{toldUpdate, checkNodes, velocities, Updat
 ghost use Rattle.update.specs.Internal.{accelerated, NodesWithin, GridLimits};
 use entry::Begun;
 use entry::Buffers;
+use limits::Caller;
 use settings::Settings;
 use update::Updated;
 
@@ -78,11 +79,17 @@ pub fn update_all(settings: Settings, d: u64, mass: &[u64], px: &mut [i64], py: 
 
 // Velocity takes the momentum's place in px and py: momentum/(4·mass), rounded, plus gravity, and 0 at a node without mass;
 // then drag, then the rim. A refused call leaves both as they were.
-pub fn update(settings: Settings, mass: &[u64], px: &mut [i64], py: &mut [i64]) -> Updated
-    ensures { λ r. ⌜ UpdateIs settings (now (mass .entry)) (now (px .entry)) (now (py .entry)) (toldUpdate r) (now (px .exit)) (now (py .exit)) ⌝ }
+pub fn update(
+    caller: Caller,
+    settings: Settings,
+    mass: &[u64],
+    px: &mut [i64],
+    py: &mut [i64],
+) -> Updated
+    ensures { λ r. ⌜ UpdateIs caller settings (now (mass .entry)) (now (px .entry)) (now (py .entry)) (toldUpdate r) (now (px .exit)) (now (py .exit)) ⌝ }
 {
     let buffers = Buffers::Three(mass.len(), px.len(), py.len());
-    match entry::begin(settings, buffers, 0, 0) {
+    match entry::begin(caller, settings, buffers, 0, 0) {
         Begun::Refused(refusal) => return Updated::Refused(refusal),
         Begun::Done => {}
     }

@@ -11,6 +11,7 @@ use lib.ListN.{length}
 use Rattle.refusal.specs.Refused.{Answer, result, refused, refuseIf, keptUnless}
 use Rattle.refusal.proofs.Answers.{length-passed}
 use Rattle.limits.specs.Limits.{leastMass, mostMass, mostVelocity, mostAffine, mostGravity, validMass, validPosition, validVelocity, validAffine, validGravity}
+use Rattle.limits.specs.declared.Caller.the-variants.{Bench}
 use Rattle.particle.specs.declared.Particle.{Particle}
 use Rattle.particle.specs.Layout.{recordLength}
 use Rattle.particle.specs.Record.{recordOf, writeParticle, writeAnswer, written}
@@ -125,14 +126,14 @@ gravity : (g : ℤ) → validGravity (clamped g) ≡ validGravity g
 gravity = same-within mostGravity (lit< tt)
 
 module _ (h : Header) where
-  same-checked : checkedHeader {A = Unit} (narrowedHeader h) (result tt) ≡ checkedHeader h (result tt)
+  same-checked : checkedHeader {A = Unit} Bench (narrowedHeader h) (result tt) ≡ checkedHeader Bench h (result tt)
   same-checked =
-      header-checked (narrowedHeader h) (result tt) refl (ap₂ _&&_ (gravity (h .gx)) (gravity (h .gy))) refl refl refl refl
-      ∙ sym (header-checked h (result tt) refl refl refl refl refl refl)
+      header-checked Bench (narrowedHeader h) (result tt) refl (ap₂ _&&_ (gravity (h .gx)) (gravity (h .gy))) refl refl refl refl
+      ∙ sym (header-checked Bench h (result tt) refl refl refl refl refl refl)
 
-  same-values : checkedHeader {A = Unit} h (result tt) ≡ result tt → narrowedHeader h ≡ h
+  same-values : checkedHeader {A = Unit} Bench h (result tt) ≡ result tt → narrowedHeader h ≡ h
   same-values e =
-      let v = valid h (result tt) e .0 in
+      let v = valid Bench h (result tt) e .0 in
       λ i.
       record {
         nx = h .nx;
@@ -153,7 +154,7 @@ module _ (h : Header) where
         answer = same-answer;
         buffer = λ bytes.
             same-buffer headerOf bytes (same-answer bytes)
-            (λ e. same-values (length-passed (length bytes) headerLength (checkedHeader h (result tt)) e .1));
+            (λ e. same-values (length-passed (length bytes) headerLength (checkedHeader Bench h (result tt)) e .1));
       }
     where
       same-answer : (bytes : List ℕ) → file.writeAnswer (narrowedHeader h) bytes ≡ file.writeAnswer h bytes

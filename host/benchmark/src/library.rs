@@ -7,12 +7,12 @@ use std::mem::transmute;
 use std::path::Path;
 use std::process::Command;
 
-pub use engine::library::{Library, PROVED};
+pub use engine::library::{Library, PAGE, PROVED};
 
 use engine::library::Functions;
 use optimised::c;
 
-/// The functions of a library, each made by a macro from its name here and its name in C.
+/// The bench's functions of a library, each made by a macro from its name here and its name in C.
 macro_rules! functions {
     ($make:ident) => {
         engine::library::Functions {
@@ -36,7 +36,26 @@ macro_rules! functions {
     };
 }
 
-pub(crate) use functions;
+/// The lesson page's, with those of the bench's that know no caller.
+macro_rules! page_functions {
+    ($make:ident, $bench:expr) => {
+        engine::library::Functions {
+            check_set: $make!(check_set gondwize_page_check_set),
+            totals: $make!(totals gondwize_page_totals),
+            scatter: $make!(scatter gondwize_page_scatter),
+            adding_scatter: $make!(adding_scatter gondwize_page_adding_scatter),
+            update: $make!(update gondwize_page_update),
+            gather: $make!(gather gondwize_page_gather),
+            step: $make!(step gondwize_page_step),
+            run: $make!(run gondwize_page_run),
+            read_file: $make!(read_file gondwize_page_read_file),
+            keep: $make!(keep gondwize_page_keep),
+            ..$bench
+        }
+    };
+}
+
+pub(crate) use {functions, page_functions};
 
 macro_rules! optimised {
     ($name:ident $function:ident) => {
@@ -44,11 +63,23 @@ macro_rules! optimised {
     };
 }
 
-/// Rust written for speed.
+macro_rules! optimised_page {
+    ($name:ident $function:ident) => {
+        c::page::$name
+    };
+}
+
+/// Rust written for speed, as the bench calls it.
 pub const OPTIMISED: Library = {
     // SAFETY: each function makes slices of its pointers and lengths and hands them to one that takes
     // any slices and has no state.
     unsafe { Library::new(functions!(optimised)) }
+};
+
+/// The same, as the lesson page calls it.
+pub const OPTIMISED_PAGE: Library = {
+    // SAFETY: as above.
+    unsafe { Library::new(page_functions!(optimised_page, functions!(optimised))) }
 };
 
 unsafe extern "C" {

@@ -1,11 +1,10 @@
 //! A call by the engine and by the reference.
 
-use engine::library::Library;
+use engine::library::{Library, PAGE, PROVED};
 use engine::GridBuffers;
 use reference::edge::{OPEN, SLIP, STICKY};
 use reference::limits::RECORD_LENGTH;
-use reference::simulation::{run_by, step_by};
-use reference::transfer::{adding_scatter_by, gather_by, scatter_by};
+use reference::{adding_scatter_for, gather_for, run_for, scatter_for, step_for, Caller};
 use reference::{Edge, Header, Particle, Refusal, RunAnswer, Settings, Size, Sums, Totals};
 use vectors::{Answer, Buffers, Operation};
 
@@ -141,47 +140,65 @@ fn from_run(answer: engine::RunAnswer) -> RunAnswer {
     }
 }
 
-/// The answer of the engine; the buffers are left as the operation leaves them. None where the
+/// The proved library as a caller calls it.
+pub fn library(caller: Caller) -> &'static Library {
+    match caller {
+        Caller::Bench => &PROVED,
+        Caller::Page => &PAGE,
+    }
+}
+
+/// The engine's function of this name for a caller, with its arguments.
+macro_rules! called {
+    ($caller:ident $name:ident($($argument:expr),*)) => {
+        match $caller {
+            Caller::Bench => engine::$name($($argument),*),
+            Caller::Page => engine::page::$name($($argument),*),
+        }
+    };
+}
+
+/// The answer of the engine to a caller; the buffers are left as the operation leaves them. None where the
 /// engine's types have no such numbers, and for the program.
-pub fn by_engine(operation: Operation, buffers: &mut Buffers) -> Option<Answer> {
+pub fn by_engine(caller: Caller, operation: Operation, buffers: &mut Buffers) -> Option<Answer> {
     let (bytes, store, name) = (&mut buffers.bytes, &mut buffers.store, &buffers.name);
     let mut grid = GridBuffers {
         mass: &mut buffers.grid.mass,
         x: &mut buffers.grid.x,
         y: &mut buffers.grid.y,
     };
+    let grid = &mut grid;
     let done = |()| Answer::Done;
     let answer = match operation {
         Operation::ReadRecord => {
             engine::read_record(bytes).map(|p| Answer::Particle(from_engine(p)))
         }
         Operation::WriteRecord(p) => engine::write_record(&to_engine(p)?, bytes).map(done),
-        Operation::CheckSet(at) => engine::check_set(size(at)?, bytes).map(Answer::Count),
-        Operation::Totals(at) => {
-            engine::totals(size(at)?, bytes).map(|totals| Answer::Totals(from_totals(totals)))
-        }
+        Operation::CheckSet(at) => called!(caller check_set(size(at)?, bytes)).map(Answer::Count),
+        Operation::Totals(at) => called!(caller totals(size(at)?, bytes))
+            .map(|totals| Answer::Totals(from_totals(totals))),
         Operation::Weights(q) => {
             engine::weights(q.try_into().ok()?).map(|row| Answer::Weights(row.map(i128::from)))
         }
-        Operation::Scatter(at) => engine::scatter(size(at)?, bytes, &mut grid).map(done),
+        Operation::Scatter(at) => called!(caller scatter(size(at)?, bytes, grid)).map(done),
         Operation::AddingScatter(at) => {
-            engine::adding_scatter(size(at)?, bytes, &mut grid).map(done)
+            called!(caller adding_scatter(size(at)?, bytes, grid)).map(done)
         }
-        Operation::Update(given) => engine::update(settings(given)?, &mut grid).map(done),
-        Operation::Gather(at) => engine::gather(size(at)?, bytes, grid.x, grid.y).map(done),
-        Operation::Step(given) => engine::step(settings(given)?, bytes, &mut grid).map(done),
+        Operation::Update(given) => called!(caller update(settings(given)?, grid)).map(done),
+        Operation::Gather(at) => called!(caller gather(size(at)?, bytes, grid.x, grid.y)).map(done),
+        Operation::Step(given) => called!(caller step(settings(given)?, bytes, grid)).map(done),
         Operation::Run(given, steps) => {
-            let steps = steps.try_into().ok()?;
-            let answer = engine::run(settings(given)?, steps, bytes, &mut grid);
+            let (given, steps) = (settings(given)?, steps.try_into().ok()?);
+            let answer = called!(caller run(given, steps, bytes, grid));
             Ok(Answer::Ran(from_run(answer)))
         }
         Operation::ReadFile => {
-            engine::read_file(bytes).map(|header| Answer::Header(from_header(header)))
+            called!(caller read_file(bytes)).map(|header| Answer::Header(from_header(header)))
         }
         Operation::WriteHeader(header) => {
             engine::write_header(&to_header(header)?, bytes).map(done)
         }
-        Operation::Keep => engine::keep(store, name, bytes).map(done),
+        Operation::Keep => called!(caller keep(store, name, bytes)).map(done),
         Operation::Return => engine::return_to(store, name, bytes).map(Answer::Length),
         Operation::Forget => engine::forget(store, name).map(done),
         Operation::Program => return None,
@@ -264,43 +281,50 @@ fn sums(buffers: &Buffers) -> Sums {
     }
 }
 
-/// The answer of the reference; the buffers are left as the operation leaves them.
-pub fn by_reference(operation: Operation, buffers: &mut Buffers) -> Answer {
+/// The answer of the reference to a caller; the buffers are left as the operation leaves them.
+pub fn by_reference(caller: Caller, operation: Operation, buffers: &mut Buffers) -> Answer {
     let sums = sums(buffers);
     let Buffers { bytes, grid, .. } = buffers;
     let answer = match operation {
-        Operation::Scatter(size) => scatter_by(sums, size, bytes, &mut grid.buffers()),
-        Operation::AddingScatter(size) => adding_scatter_by(sums, size, bytes, &mut grid.buffers()),
-        Operation::Gather(size) => gather_by(sums, size, bytes, &grid.x, &grid.y),
-        Operation::Step(settings) => step_by(sums, settings, bytes, &mut grid.buffers()),
+        Operation::Scatter(size) => scatter_for(caller, sums, size, bytes, &mut grid.buffers()),
+        Operation::AddingScatter(size) => {
+            adding_scatter_for(caller, sums, size, bytes, &mut grid.buffers())
+        }
+        Operation::Gather(size) => gather_for(caller, sums, size, bytes, &grid.x, &grid.y),
+        Operation::Step(settings) => step_for(caller, sums, settings, bytes, &mut grid.buffers()),
         Operation::Run(settings, steps) => {
-            let answer = run_by(sums, settings, steps, bytes, &mut grid.buffers());
+            let answer = run_for(caller, sums, settings, steps, bytes, &mut grid.buffers());
             return Answer::Ran(answer);
         }
-        other => return vectors::perform(other, buffers),
+        other => return vectors::perform(caller, other, buffers),
     };
     answer.map_or_else(Answer::Refused, |()| Answer::Done)
 }
 
-/// Calls both; the answer and the buffers, if they agree. None where the engine has no such call.
+/// Calls both for a caller; the answer and the buffers, if they agree. None where the engine has no such call.
 ///
 /// # Panics
 ///
 /// Where answers or buffers differ.
-pub fn agreed(name: &str, operation: Operation, before: &Buffers) -> Option<(Answer, Buffers)> {
+pub fn agreed(
+    name: &str,
+    caller: Caller,
+    operation: Operation,
+    before: &Buffers,
+) -> Option<(Answer, Buffers)> {
     let mut found = before.clone();
-    let answer = by_engine(operation, &mut found)?;
+    let answer = by_engine(caller, operation, &mut found)?;
     let mut expected = before.clone();
-    let expected_answer = by_reference(operation, &mut expected);
-    assert_eq!(answer, expected_answer, "{name}: {operation:?}");
+    let expected_answer = by_reference(caller, operation, &mut expected);
+    assert_eq!(answer, expected_answer, "{name}: {caller:?} {operation:?}");
     assert!(
         found.store == expected.store,
-        "{name}: stores differ after {operation:?} of {:?}",
+        "{name}: stores differ after {caller:?} {operation:?} of {:?}",
         before.name
     );
     assert!(
         found == expected,
-        "{name}: buffers differ after {operation:?}\nbefore: {before:?}\nengine: {found:?}\nreference: {expected:?}"
+        "{name}: buffers differ after {caller:?} {operation:?}\nbefore: {before:?}\nengine: {found:?}\nreference: {expected:?}"
     );
     Some((answer, found))
 }

@@ -1,11 +1,12 @@
-//! Inputs of every operation: valid ones, every limit at its edge and one beyond, and damaged bytes.
+//! Inputs of every operation: valid ones, every limit at its edge and one beyond, and damaged bytes. Those of an
+//! operation that serves both callers lie about one caller's limits; either may be given them.
 
 use reference::generator::Generator;
 use reference::limits::{HEADER_LENGTH, MAX_FILE_LENGTH, NAME_LENGTH, RECORD_LENGTH};
 use reference::limits::{STORE_LENGTH, STORE_PLACES, STORE_PLACE_LENGTH};
 use reference::particle_set::pack_records;
 use reference::transfer::scatter_by;
-use reference::{Edge, Grid, Header, Particle, Settings, Size, Sums};
+use reference::{Caller, Edge, Grid, Header, Particle, Settings, Size, Sums};
 use vectors::{Buffers, Operation};
 
 /// A number at an end of its range, one beyond, inside, inside but for a higher bit that a narrower
@@ -39,17 +40,36 @@ pub const U64: Ends = (0, u64::MAX as i128);
 pub const I64: Ends = (i64::MIN as i128, i64::MAX as i128);
 
 /// A size: mostly small and accepted.
-fn size(numbers: &mut Generator) -> Size {
+fn size(numbers: &mut Generator, caller: Caller) -> Size {
+    let most = caller.limits().nodes;
     match numbers.between(0, 39) {
-        0 => Size::new(near(numbers, (4, 48), USIZE), numbers.between(4, 48)),
-        1 => Size::new(numbers.between(4, 48), near(numbers, (4, 48), USIZE)),
-        2 => Size::new(numbers.one_of(&[4, 48]), numbers.one_of(&[4, 48])),
+        0 => Size::new(near(numbers, (4, most), USIZE), numbers.between(4, most)),
+        1 => Size::new(numbers.between(4, most), near(numbers, (4, most), USIZE)),
+        2 => Size::new(numbers.one_of(&[4, most]), numbers.one_of(&[4, most])),
+        3..=6 if caller == Caller::Page => about_the_page(numbers),
         3..=9 => numbers.size(),
         _ => Size::new(numbers.between(4, 9), numbers.between(4, 9)),
     }
 }
 
-/// The nearest accepted size, for particles to stand on.
+/// A size about the page's limit.
+fn about_the_page(numbers: &mut Generator) -> Size {
+    let most = Caller::Page.limits().nodes;
+    Size::new(
+        numbers.between(most - 2, most + 1),
+        numbers.between(most - 2, most + 1),
+    )
+}
+
+/// A number of records about the page's limit, and at times one that only the bench takes or none.
+fn count_about_the_page(numbers: &mut Generator) -> usize {
+    let page = Caller::Page.limits().records;
+    let bench = Caller::Bench.limits().records;
+    let near = page + numbers.between(-1, 1);
+    numbers.one_of(&[page, page + 1, near, near, near, near, bench, bench + 1]) as usize
+}
+
+/// The nearest size that the bench accepts, for particles to stand on.
 fn ground(size: Size) -> Size {
     Size::new(size.nx.clamp(4, 48), size.ny.clamp(4, 48))
 }
@@ -153,12 +173,16 @@ fn damage(numbers: &mut Generator, bytes: &mut Vec<u8>) {
     }
 }
 
-/// The particles of a set, mostly accepted on the grid.
-fn particles(numbers: &mut Generator, size: Size) -> Vec<Particle> {
+/// The particles of a set, mostly accepted on the grid, and for the page at times about as many as it takes.
+fn particles(numbers: &mut Generator, caller: Caller, size: Size) -> Vec<Particle> {
     if numbers.once_in(60) {
         return heavy(numbers, size);
     }
-    let count = numbers.one_of(&[0, 1, 1, 2, 2, 3, 5, 8, 13, 40]) as usize;
+    let count = if caller == Caller::Page && numbers.once_in(30) {
+        count_about_the_page(numbers)
+    } else {
+        numbers.one_of(&[0, 1, 1, 2, 2, 3, 5, 8, 13, 40]) as usize
+    };
     let v = numbers.one_of(&[0, 2, 20, 63]);
     let b = numbers.one_of(&[0, 100, 2047]);
     let mut set = numbers.particles(size, count, v, b);
@@ -203,9 +227,9 @@ fn break_set(numbers: &mut Generator, size: Size, set: &mut [Particle]) {
 }
 
 /// The records of a set, one in four broken and one in eight damaged.
-fn records(numbers: &mut Generator, size: Size) -> Vec<u8> {
+fn records(numbers: &mut Generator, caller: Caller, size: Size) -> Vec<u8> {
     let ground = ground(size);
-    let mut set = particles(numbers, ground);
+    let mut set = particles(numbers, caller, ground);
     if numbers.once_in(4) {
         break_set(numbers, ground, &mut set);
     }
@@ -241,6 +265,12 @@ fn any_grid(numbers: &mut Generator, size: Size) -> Grid {
 /// A call: an operation with its buffers.
 pub type Call = (Operation, Buffers);
 
+/// Makes a call of an operation that knows no caller.
+pub type Make = fn(&mut Generator) -> Call;
+
+/// Makes a call of an operation that serves both callers, about the limits of this one.
+pub type MakeFor = fn(&mut Generator, Caller) -> Call;
+
 /// Read a record.
 pub fn read_record(numbers: &mut Generator) -> Call {
     let mut held = particle(numbers, Size::new(48, 48));
@@ -270,20 +300,20 @@ pub fn write_record(numbers: &mut Generator) -> Call {
 }
 
 /// Check a set.
-pub fn check_set(numbers: &mut Generator) -> Call {
-    let size = size(numbers);
+pub fn check_set(numbers: &mut Generator, caller: Caller) -> Call {
+    let size = size(numbers, caller);
     (
         Operation::CheckSet(size),
-        Buffers::of_bytes(records(numbers, size)),
+        Buffers::of_bytes(records(numbers, caller, size)),
     )
 }
 
 /// Totals.
-pub fn totals(numbers: &mut Generator) -> Call {
-    let size = size(numbers);
+pub fn totals(numbers: &mut Generator, caller: Caller) -> Call {
+    let size = size(numbers, caller);
     (
         Operation::Totals(size),
-        Buffers::of_bytes(records(numbers, size)),
+        Buffers::of_bytes(records(numbers, caller, size)),
     )
 }
 
@@ -294,9 +324,9 @@ pub fn weights(numbers: &mut Generator) -> Call {
 }
 
 /// Scatter.
-pub fn scatter(numbers: &mut Generator) -> Call {
-    let size = size(numbers);
-    let bytes = records(numbers, size);
+pub fn scatter(numbers: &mut Generator, caller: Caller) -> Call {
+    let size = size(numbers, caller);
+    let bytes = records(numbers, caller, size);
     let grid = any_grid(numbers, size);
     (Operation::Scatter(size), Buffers::new(bytes, grid))
 }
@@ -331,8 +361,8 @@ fn fill_node(numbers: &mut Generator, size: Size, records: &[u8], grid: &mut Gri
 
 /// Adding scatter, mostly onto nodes that are accepted, and one in five times onto nodes that hold
 /// anything.
-pub fn adding_scatter(numbers: &mut Generator) -> Call {
-    let (Operation::Scatter(size), mut buffers) = scatter(numbers) else {
+pub fn adding_scatter(numbers: &mut Generator, caller: Caller) -> Call {
+    let (Operation::Scatter(size), mut buffers) = scatter(numbers, caller) else {
         unreachable!("a scatter");
     };
     let Buffers { bytes, grid, .. } = &mut buffers;
@@ -379,8 +409,8 @@ fn node(numbers: &mut Generator, settings: Settings) -> (u64, i64, i64) {
 }
 
 /// Update.
-pub fn update(numbers: &mut Generator) -> Call {
-    let size = size(numbers);
+pub fn update(numbers: &mut Generator, caller: Caller) -> Call {
+    let size = size(numbers, caller);
     let settings = settings(numbers, size);
     let mut grid = any_grid(numbers, size);
     if !numbers.once_in(10) {
@@ -423,9 +453,9 @@ fn halves(numbers: &mut Generator, size: Size, count: usize) -> Vec<i64> {
 }
 
 /// Gather.
-pub fn gather(numbers: &mut Generator) -> Call {
-    let size = size(numbers);
-    let bytes = records(numbers, size);
+pub fn gather(numbers: &mut Generator, caller: Caller) -> Call {
+    let size = size(numbers, caller);
+    let bytes = records(numbers, caller, size);
     let mut axis = || {
         let count = nodes(numbers, size);
         if numbers.once_in(4) {
@@ -443,10 +473,10 @@ pub fn gather(numbers: &mut Generator) -> Call {
 }
 
 /// Step.
-pub fn step(numbers: &mut Generator) -> Call {
-    let size = size(numbers);
+pub fn step(numbers: &mut Generator, caller: Caller) -> Call {
+    let size = size(numbers, caller);
     let settings = settings(numbers, size);
-    let bytes = records(numbers, size);
+    let bytes = records(numbers, caller, size);
     let grid = any_grid(numbers, size);
     (Operation::Step(settings), Buffers::new(bytes, grid))
 }
@@ -468,8 +498,8 @@ fn steps(numbers: &mut Generator, settings: Settings) -> i128 {
 }
 
 /// Run.
-pub fn run(numbers: &mut Generator) -> Call {
-    let (Operation::Step(settings), buffers) = step(numbers) else {
+pub fn run(numbers: &mut Generator, caller: Caller) -> Call {
+    let (Operation::Step(settings), buffers) = step(numbers, caller) else {
         unreachable!("a step");
     };
     (Operation::Run(settings, steps(numbers, settings)), buffers)
@@ -487,7 +517,14 @@ struct HeaderEnds {
 }
 
 /// A header, mostly accepted, its numbers within these ends.
-fn header(numbers: &mut Generator, size: Size, count: usize, ends: HeaderEnds) -> Header {
+fn header(
+    numbers: &mut Generator,
+    caller: Caller,
+    size: Size,
+    count: usize,
+    ends: HeaderEnds,
+) -> Header {
+    let most = caller.limits();
     let settings = Settings::new(
         size,
         numbers.between(-4096, 4096),
@@ -508,10 +545,10 @@ fn header(numbers: &mut Generator, size: Size, count: usize, ends: HeaderEnds) -
     match numbers.between(0, 17) {
         0 => header.settings.gx = near(numbers, (-4096, 4096), ends.gravity),
         1 => header.settings.gy = near(numbers, (-4096, 4096), ends.gravity),
-        2 => header.count = near(numbers, (0, 4096), ends.count),
+        2 => header.count = near(numbers, (0, most.records), ends.count),
         3 => header.steps = near(numbers, (0, 10_000), ends.steps),
-        4 => header.settings.size.nx = near(numbers, (4, 48), ends.side),
-        5 => header.settings.size.ny = near(numbers, (4, 48), ends.side),
+        4 => header.settings.size.nx = near(numbers, (4, most.nodes), ends.side),
+        5 => header.settings.size.ny = near(numbers, (4, most.nodes), ends.side),
         6 => header.settings.edge.kind = near(numbers, (0, 2), ends.kind),
         7 => header.settings.edge.width = near(numbers, (0, 3), ends.width),
         8 => header.settings.drag = near(numbers, (0, 255), ends.drag),
@@ -521,9 +558,13 @@ fn header(numbers: &mut Generator, size: Size, count: usize, ends: HeaderEnds) -
 }
 
 /// Read a file.
-pub fn read_file(numbers: &mut Generator) -> Call {
-    let size = numbers.size();
-    let set = records(numbers, size);
+pub fn read_file(numbers: &mut Generator, caller: Caller) -> Call {
+    let size = match caller {
+        Caller::Bench => numbers.size(),
+        Caller::Page if numbers.once_in(4) => about_the_page(numbers),
+        Caller::Page => Size::new(numbers.between(4, 17), numbers.between(4, 17)),
+    };
+    let set = records(numbers, caller, size);
     let count = set.len() / RECORD_LENGTH;
     let fields = HeaderEnds {
         side: (0, 63),
@@ -539,7 +580,8 @@ pub fn read_file(numbers: &mut Generator) -> Call {
     } else {
         0
     };
-    let mut file = header(numbers, size, count, fields).pack(spare).to_vec();
+    let header = header(numbers, caller, size, count, fields);
+    let mut file = header.pack(spare).to_vec();
     file.extend(set);
     match numbers.between(0, 19) {
         0 => file.truncate(place(numbers, file.len())),
@@ -578,7 +620,7 @@ fn file_of(settings: Settings, steps: i128, records: &[u8]) -> Vec<u8> {
 /// A file with as many records as one can have or some fewer, and often bytes beyond them.
 fn long_file(numbers: &mut Generator) -> Vec<u8> {
     let count = numbers.one_of(&[4_096, 4_096, 4_095, 3_000]);
-    let (size, records) = full_set(numbers, count as usize);
+    let (size, records) = full_set(numbers, Caller::Bench, count as usize);
     let steps = numbers.between(0, 1);
     let mut file = file_of(file_settings(numbers, size), steps, &records);
     let more = numbers.one_of(&[0, 0, 1, 2, RECORD, RECORD + 1, 9_000, 70_000]);
@@ -616,7 +658,7 @@ pub fn bath_file(numbers: &mut Generator) -> Vec<u8> {
     match numbers.between(0, 99) {
         0 => return long_file(numbers),
         1..=3 => return approach(numbers),
-        4..=36 => return read_file(numbers).1.bytes,
+        4..=36 => return read_file(numbers, Caller::Bench).1.bytes,
         _ => {}
     }
     let size = Size::new(numbers.between(4, 16), numbers.between(4, 16));
@@ -642,7 +684,7 @@ pub fn bath_file(numbers: &mut Generator) -> Vec<u8> {
 
 /// Write a header.
 pub fn write_header(numbers: &mut Generator) -> Call {
-    let size = size(numbers);
+    let size = size(numbers, Caller::Bench);
     let count = numbers.between(0, 4096) as usize;
     let wide = HeaderEnds {
         side: USIZE,
@@ -653,7 +695,7 @@ pub fn write_header(numbers: &mut Generator) -> Call {
         width: USIZE,
         drag: USIZE,
     };
-    let header = header(numbers, size, count, wide);
+    let header = header(numbers, Caller::Bench, size, count, wide);
     let length = numbers.one_of(&[11, 11, 11, 11, 11, 11, 11, 11, 0, 9, 10, 12, 14]);
     let buffer = any_bytes(numbers, length as usize);
     (Operation::WriteHeader(header), Buffers::of_bytes(buffer))
@@ -688,7 +730,7 @@ pub fn name(numbers: &mut Generator) -> Vec<u8> {
 pub fn accepted_file(numbers: &mut Generator) -> Vec<u8> {
     let (size, records) = if numbers.once_in(200) {
         let count = numbers.one_of(&[4_095, 4_096]);
-        full_set(numbers, count as usize)
+        full_set(numbers, Caller::Bench, count as usize)
     } else {
         accepted(numbers)
     };
@@ -696,10 +738,10 @@ pub fn accepted_file(numbers: &mut Generator) -> Vec<u8> {
     file_of(file_settings(numbers, size), steps, &records)
 }
 
-/// A bath file to keep, one in five refused.
-pub fn file_to_keep(numbers: &mut Generator) -> Vec<u8> {
+/// A bath file for a caller to keep, one in five refused by the bench.
+pub fn file_to_keep(numbers: &mut Generator, caller: Caller) -> Vec<u8> {
     if numbers.once_in(3) {
-        read_file(numbers).1.bytes
+        read_file(numbers, caller).1.bytes
     } else {
         accepted_file(numbers)
     }
@@ -776,7 +818,7 @@ pub fn damage_store(numbers: &mut Generator, store: &mut Vec<u8>, kind: i128) {
         }
         6 => at[NAME_LENGTH..].fill(0),
         7 => {
-            let file = read_file(numbers).1.bytes;
+            let file = read_file(numbers, Caller::Bench).1.bytes;
             fill_place(at, b"NAME", &file[..file.len().min(MAX_FILE_LENGTH)]);
         }
         _ => at.copy_from_slice(&copied),
@@ -794,13 +836,17 @@ fn any_store(numbers: &mut Generator) -> Vec<u8> {
 }
 
 /// Keep.
-pub fn keep(numbers: &mut Generator) -> Call {
-    keep_in(numbers, any_store)
+pub fn keep(numbers: &mut Generator, caller: Caller) -> Call {
+    keep_in(numbers, caller, any_store)
 }
 
 /// A keep in a store that is made so.
-pub fn keep_in(numbers: &mut Generator, store: impl FnOnce(&mut Generator) -> Vec<u8>) -> Call {
-    let (name, file) = (name(numbers), file_to_keep(numbers));
+pub fn keep_in(
+    numbers: &mut Generator,
+    caller: Caller,
+    store: impl FnOnce(&mut Generator) -> Vec<u8>,
+) -> Call {
+    let (name, file) = (name(numbers), file_to_keep(numbers, caller));
     let store = store(numbers);
     (Operation::Keep, Buffers::of_store(store, &name, file))
 }
@@ -839,11 +885,11 @@ pub fn forget_in(numbers: &mut Generator, store: impl FnOnce(&mut Generator) -> 
     )
 }
 
-/// A call on this store: as many keeps as returns and forgets together.
-pub fn store_call(numbers: &mut Generator, store: &[u8]) -> Call {
+/// A call on this store: as many keeps, about this caller's limits, as returns and forgets together.
+pub fn store_call(numbers: &mut Generator, caller: Caller, store: &[u8]) -> Call {
     let given = |_: &mut Generator| store.to_vec();
     match numbers.between(0, 5) {
-        0..=2 => keep_in(numbers, given),
+        0..=2 => keep_in(numbers, caller, given),
         3 | 4 => return_from(numbers, given),
         _ => forget_in(numbers, given),
     }
@@ -858,10 +904,28 @@ pub fn accepted(numbers: &mut Generator) -> (Size, Vec<u8>) {
     (size, pack_records(&numbers.particles(size, count, v, b)))
 }
 
-/// A step or run on some records: mostly on this size, with grids that hold anything.
-pub fn list_call(numbers: &mut Generator, size: Size, records: &[u8]) -> Call {
+/// An accepted set about the page's limits, of size or of number, for lists of calls of both callers.
+pub fn accepted_about_the_page(numbers: &mut Generator) -> (Size, Vec<u8>) {
+    let count = if numbers.once_in(12) {
+        Caller::Page.limits().records + numbers.between(-1, 1)
+    } else {
+        numbers.between(0, 12)
+    };
+    let size = if numbers.once_in(2) {
+        about_the_page(numbers)
+    } else {
+        Size::new(numbers.between(4, 16), numbers.between(4, 16))
+    };
+    let (v, b) = (numbers.one_of(&[0, 2, 8]), numbers.one_of(&[0, 30]));
+    let set = numbers.particles(size, count as usize, v, b);
+    (size, pack_records(&set))
+}
+
+/// A step or run on some records: mostly on this size, and else on one about this caller's limits, with grids that
+/// hold anything.
+pub fn list_call(numbers: &mut Generator, caller: Caller, size: Size, records: &[u8]) -> Call {
     let given = if numbers.once_in(8) {
-        self::size(numbers)
+        self::size(numbers, caller)
     } else {
         size
     };
@@ -888,14 +952,15 @@ pub fn present(numbers: &mut Generator) -> (Size, Grid) {
 
 /// An adding scatter of some records onto this grid.
 pub fn addition(numbers: &mut Generator, size: Size, grid: &Grid) -> Call {
-    let bytes = records(numbers, size);
+    let bytes = records(numbers, Caller::Bench, size);
     let grid = grid.clone();
     (Operation::AddingScatter(size), Buffers::new(bytes, grid))
 }
 
-/// A set of as many records as wanted on the largest grid, the total mass at its limit.
-pub fn full_set(numbers: &mut Generator, count: usize) -> (Size, Vec<u8>) {
-    let size = Size::new(48, 48);
+/// A set of as many records as wanted on a caller's largest grid; the total mass of the bench's is at its limit.
+pub fn full_set(numbers: &mut Generator, caller: Caller, count: usize) -> (Size, Vec<u8>) {
+    let most = caller.limits().nodes;
+    let size = Size::new(most, most);
     let mut set: Vec<Particle> = (0..count).map(|_| particle(numbers, size)).collect();
     for (k, p) in set.iter_mut().enumerate() {
         p.identifier = (k * 15) as u16;

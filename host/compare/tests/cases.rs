@@ -8,24 +8,27 @@ use compare::inputs::{self, Ends, I64, U64, USIZE};
 use compare::{count, stream};
 use reference::limits::{HEADER_LENGTH, RECORD_LENGTH};
 use reference::report::report;
-use reference::{Edge, Grid, Header, Particle, Settings, Size};
+use reference::{Caller, Edge, Grid, Header, Particle, Settings, Size};
 use vectors::{cases, Answer, Buffers, Operation};
 
-/// Every vector but the program's.
+/// Every vector but the program's, for its caller.
 #[test]
 fn vectors() {
-    let mut compared = 0;
+    let (mut compared, mut of_the_page) = (0, 0);
     for case in cases() {
         if case.operation == Operation::Program {
             continue;
         }
         let mut after = case.before.clone();
-        let answer = by_engine(case.operation, &mut after).expect("numbers that the engine takes");
+        let answer = by_engine(case.caller, case.operation, &mut after);
+        let answer = answer.expect("numbers that the engine takes");
         assert_eq!(answer, case.answer, "{}", case.name);
         assert!(after == case.after, "{}: buffers differ", case.name);
         compared += 1;
+        of_the_page += usize::from(case.caller == Caller::Page);
     }
     assert!(compared > 2_000, "only {compared} vectors");
+    assert!(of_the_page > 100, "only {of_the_page} of the page");
 }
 
 #[test]
@@ -33,15 +36,17 @@ fn offsets() {
     let ends = [i64::MIN, i64::MIN + 1, i64::MAX - 1, i64::MAX];
     for q in (-1_000..=1_000).chain(ends) {
         let buffers = Buffers::of_bytes(Vec::new());
-        agreed("offset", Operation::Weights(q.into()), &buffers).expect("a call");
+        let weights = Operation::Weights(q.into());
+        agreed("offset", Caller::Bench, weights, &buffers).expect("a call");
     }
 }
 
 /// A field: the ends of its type, an accepted number, and how it is set.
 type Field<T> = (Ends, i128, fn(&mut T, i128));
 
-/// Calls both for the field's number with each higher bit of its type added or taken away.
+/// Calls both for a caller and the field's number with each higher bit of its type added or taken away.
 fn wide<T: Copy>(
+    caller: Caller,
     (ends, accepted, set): Field<T>,
     given: T,
     before: &Buffers,
@@ -50,7 +55,7 @@ fn wide<T: Copy>(
     let call = |number: i128| {
         let mut given = given;
         set(&mut given, number);
-        let (answer, _) = agreed("wide", operation(given), before).expect("a call");
+        let (answer, _) = agreed("wide", caller, operation(given), before).expect("a call");
         answer.refusal()
     };
     assert_eq!(call(accepted), None);
@@ -84,6 +89,7 @@ fn wide_numbers_of_a_record() {
     for field in fields {
         let particle = Particle::at_rest(7, 2, 64, 64);
         wide(
+            Caller::Bench,
             field,
             particle,
             &bytes(RECORD_LENGTH),
@@ -101,8 +107,10 @@ fn marks() {
             .with_b([-800, 901, 1002, -1103])
             .with_marks(marks);
         let write = Operation::WriteRecord(particle);
-        let (_, written) = agreed("marks", write, &bytes(RECORD_LENGTH)).expect("a call");
-        let (read, _) = agreed("marks", Operation::ReadRecord, &written).expect("a call");
+        let called =
+            |operation, before: &Buffers| agreed("marks", Caller::Bench, operation, before);
+        let (_, written) = called(write, &bytes(RECORD_LENGTH)).expect("a call");
+        let (read, _) = called(Operation::ReadRecord, &written).expect("a call");
         assert_eq!(read, Answer::Particle(particle));
     }
 }
@@ -133,7 +141,14 @@ fn wide_numbers_of_a_header() {
             count: 0,
             steps: 0,
         };
-        wide(field, header, &bytes(HEADER_LENGTH), Operation::WriteHeader);
+        let buffer = bytes(HEADER_LENGTH);
+        wide(
+            Caller::Bench,
+            field,
+            header,
+            &buffer,
+            Operation::WriteHeader,
+        );
     }
 }
 
@@ -152,10 +167,15 @@ fn wide_numbers_of_settings() {
         Particle::at_rest(7, 2, 90, 70).pack().to_vec(),
         Grid::filled(20, 5, 300, -200),
     );
-    for field in fields {
-        wide(field, forced(), &before, Operation::Update);
-        wide(field, forced(), &before, Operation::Step);
-        wide(field, forced(), &before, |given| Operation::Run(given, 2));
+    for caller in Caller::ALL {
+        for field in fields {
+            let wide = |operation: fn(Settings) -> Operation| {
+                wide(caller, field, forced(), &before, operation);
+            };
+            wide(Operation::Update);
+            wide(Operation::Step);
+            wide(|given| Operation::Run(given, 2));
+        }
     }
 }
 
@@ -170,8 +190,11 @@ fn wide_open_edges() {
             Operation::Step(settings),
             Operation::Run(settings, 0),
         ] {
-            let (answer, _) = agreed("a wide open edge", operation, &before).expect("a call");
-            assert_eq!(answer.refusal().map(|refusal| refusal.number), Some(18));
+            for caller in Caller::ALL {
+                let called = agreed("a wide open edge", caller, operation, &before);
+                let (answer, _) = called.expect("a call");
+                assert_eq!(answer.refusal().map(|refusal| refusal.number), Some(18));
+            }
         }
     }
 }
@@ -208,7 +231,8 @@ fn edges_by_their_numbers() {
 /// The program's text, by the engine.
 fn text(file: &[u8]) -> String {
     let mut buffers = Buffers::of_bytes(file.to_vec());
-    let settings = match by_engine(Operation::ReadFile, &mut buffers) {
+    let call = |operation, buffers: &mut Buffers| by_engine(Caller::Bench, operation, buffers);
+    let settings = match call(Operation::ReadFile, &mut buffers) {
         Some(Answer::Header(header)) => header,
         Some(Answer::Refused(refusal)) => {
             return format!("refused {} at {}\n", refusal.number, refusal.place)
@@ -220,7 +244,7 @@ fn text(file: &[u8]) -> String {
     } = settings;
     buffers.bytes.drain(..HEADER_LENGTH);
     buffers.grid = Grid::zero(settings.size.nodes());
-    let Some(Answer::Ran(answer)) = by_engine(Operation::Run(settings, steps), &mut buffers) else {
+    let Some(Answer::Ran(answer)) = call(Operation::Run(settings, steps), &mut buffers) else {
         panic!("a run");
     };
     let record = |bytes: &[u8]| Particle::unpack(bytes.try_into().expect("a record"));
@@ -244,14 +268,25 @@ fn samples() {
     assert!(found >= 10, "only {found} samples");
 }
 
-/// Sets of 4096 records, one less and one more, on the largest grid.
+/// Sets of about as many records as a caller takes, on its largest grid, and for the page of as many as the bench
+/// takes and one more.
 #[test]
 fn full_sets() {
+    let sets = [
+        (Caller::Bench, 4_095),
+        (Caller::Bench, 4_096),
+        (Caller::Bench, 4_097),
+        (Caller::Page, 511),
+        (Caller::Page, 512),
+        (Caller::Page, 513),
+        (Caller::Page, 4_096),
+        (Caller::Page, 4_097),
+    ];
     for number in 0..count().div_ceil(4_000) {
         let mut numbers = stream("full", number);
-        for records in [4_095, 4_096, 4_097] {
-            let (size, bytes) = inputs::full_set(&mut numbers, records);
-            let grid = Grid::filled(2304, 5, 300, -200);
+        for (caller, records) in sets {
+            let (size, bytes) = inputs::full_set(&mut numbers, caller, records);
+            let grid = Grid::filled(size.nodes(), 5, 300, -200);
             let before = Buffers::new(bytes, grid);
             let settings = Settings::new(size, 1, -4096);
             for operation in [
@@ -262,10 +297,10 @@ fn full_sets() {
                 Operation::Gather(size),
                 Operation::Step(settings),
                 Operation::Step(settings.with_edge(Edge::slip(2)).with_drag(3)),
-                Operation::Run(Settings::new(Size::new(48, 48), 0, 0), 3),
+                Operation::Run(Settings::new(size, 0, 0), 3),
                 Operation::Run(settings.with_edge(Edge::sticky(3)).with_drag(90), 3),
             ] {
-                agreed("a full set", operation, &before).expect("a call");
+                agreed("a full set", caller, operation, &before).expect("a call");
             }
         }
     }

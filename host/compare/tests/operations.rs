@@ -1,28 +1,49 @@
-//! Every operation on many inputs: the same answer, refusal, place and buffers.
+//! Every operation on many inputs, for each caller that it serves: the same answer, refusal, place and buffers.
 
 use std::collections::BTreeSet;
 
 use compare::calls::agreed;
-use compare::inputs::{self, Call};
+use compare::inputs::{self, Call, Make, MakeFor};
 use compare::{count, seed, stream};
 use reference::generator::Generator;
+use reference::Caller;
 
 /// From this many inputs on every refusal of the list has to come up.
 const ENOUGH: u64 = 10_000;
 
 /// Calls both with `count` inputs. Where they are enough, results and each of these refusals come up
 /// at least once, and no other.
-fn compare(name: &str, make: fn(&mut Generator) -> Call, refusals: &[u32]) {
+fn compare_by(
+    name: &str,
+    caller: Caller,
+    make: impl Fn(&mut Generator) -> Call,
+    refusals: impl IntoIterator<Item = u32>,
+) {
     let mut seen = BTreeSet::new();
     for number in 0..count() {
         let (operation, before) = make(&mut stream(name, number));
         let told = format!("{name}, COMPARE_SEED {}, input {number}", seed());
-        let (answer, _) = agreed(&told, operation, &before).expect("numbers that the engine takes");
+        let called = agreed(&told, caller, operation, &before);
+        let (answer, _) = called.expect("numbers that the engine takes");
         seen.insert(answer.refusal().map_or(0, |refusal| refusal.number));
     }
-    let listed: BTreeSet<u32> = refusals.iter().copied().chain([0]).collect();
+    let listed: BTreeSet<u32> = refusals.into_iter().chain([0]).collect();
     assert!(seen.is_subset(&listed), "{name}: {seen:?}");
     assert!(count() < ENOUGH || seen == listed, "{name}: only {seen:?}");
+}
+
+/// An operation that knows no caller.
+fn compare(name: &str, make: Make, refusals: &[u32]) {
+    compare_by(name, Caller::Bench, make, refusals.iter().copied());
+}
+
+/// An operation for the bench, with these refusals, and for the page, with these more.
+fn compare_for(name: &str, make: MakeFor, refusals: &[u32], of_the_page: &[u32]) {
+    let bench = |numbers: &mut Generator| make(numbers, Caller::Bench);
+    compare_by(name, Caller::Bench, bench, refusals.iter().copied());
+    let page = |numbers: &mut Generator| make(numbers, Caller::Page);
+    let refusals = refusals.iter().chain(of_the_page).copied();
+    compare_by(&format!("page: {name}"), Caller::Page, page, refusals);
 }
 
 #[test]
@@ -38,12 +59,13 @@ fn write_record() {
 #[test]
 fn check_set() {
     let refusals = [1, 2, 4, 5, 6, 7, 8, 9];
-    compare("check a set", inputs::check_set, &refusals);
+    compare_for("check a set", inputs::check_set, &refusals, &[3]);
 }
 
 #[test]
 fn totals() {
-    compare("totals", inputs::totals, &[1, 2, 4, 5, 6, 7, 8, 9]);
+    let refusals = [1, 2, 4, 5, 6, 7, 8, 9];
+    compare_for("totals", inputs::totals, &refusals, &[3]);
 }
 
 #[test]
@@ -53,42 +75,44 @@ fn weights() {
 
 #[test]
 fn scatter() {
-    compare("scatter", inputs::scatter, &[1, 2, 4, 5, 6, 7, 8, 9]);
+    let refusals = [1, 2, 4, 5, 6, 7, 8, 9];
+    compare_for("scatter", inputs::scatter, &refusals, &[3]);
 }
 
 #[test]
 fn adding_scatter() {
     let refusals = [1, 2, 4, 5, 6, 7, 8, 9, 20, 21];
-    compare("adding scatter", inputs::adding_scatter, &refusals);
+    compare_for("adding scatter", inputs::adding_scatter, &refusals, &[3]);
 }
 
 #[test]
 fn update() {
-    compare("update", inputs::update, &[1, 2, 10, 11, 12, 18, 19]);
+    let refusals = [1, 2, 10, 11, 12, 18, 19];
+    compare_for("update", inputs::update, &refusals, &[]);
 }
 
 #[test]
 fn gather() {
     let refusals = [1, 2, 4, 5, 6, 7, 8, 9, 12, 13, 14, 15];
-    compare("gather", inputs::gather, &refusals);
+    compare_for("gather", inputs::gather, &refusals, &[3]);
 }
 
 #[test]
 fn step() {
     let refusals = [1, 2, 4, 5, 6, 7, 8, 9, 10, 13, 14, 15, 18, 19];
-    compare("step", inputs::step, &refusals);
+    compare_for("step", inputs::step, &refusals, &[3]);
 }
 
 #[test]
 fn run() {
     let refusals = [1, 2, 4, 5, 6, 7, 8, 9, 10, 13, 14, 15, 17, 18, 19];
-    compare("run", inputs::run, &refusals);
+    compare_for("run", inputs::run, &refusals, &[3]);
 }
 
 #[test]
 fn read_file() {
     let refusals = [1, 2, 3, 4, 5, 6, 7, 8, 9, 10, 16, 17, 18];
-    compare("read a file", inputs::read_file, &refusals);
+    compare_for("read a file", inputs::read_file, &refusals, &[]);
 }
 
 #[test]
@@ -100,7 +124,7 @@ fn write_header() {
 #[test]
 fn keep() {
     let refusals = [1, 2, 3, 4, 5, 6, 7, 8, 9, 10, 16, 17, 18, 22, 24];
-    compare("keep", inputs::keep, &refusals);
+    compare_for("keep", inputs::keep, &refusals, &[]);
 }
 
 #[test]

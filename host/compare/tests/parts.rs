@@ -1,5 +1,6 @@
-//! Sets added in parts: the engine's grid is that of the whole set, in whichever order. Lists of adding
-//! scatters: each gets the grid that the one before left, refused ones included, and an update takes it.
+//! Sets added in parts: the engine's grid is that of the whole set, in whichever order, also where the page adds
+//! parts of a set that is too large for it. Lists of adding scatters: each gets the grid that the one before left,
+//! refused ones included, and an update takes it.
 
 use std::collections::BTreeSet;
 
@@ -7,26 +8,32 @@ use compare::calls::agreed;
 use compare::{count, inputs, seed, stream};
 use reference::generator::Generator;
 use reference::limits::RECORD_LENGTH;
-use reference::{Grid, Settings, Size};
+use reference::{Caller, Grid, Settings, Size};
 use vectors::{Answer, Buffers, Operation};
 
 /// The grid that an accepted call of the engine leaves.
-fn left(name: &str, operation: Operation, bytes: &[u8], grid: Grid) -> Grid {
+fn left(name: &str, caller: Caller, operation: Operation, bytes: &[u8], grid: Grid) -> Grid {
     let bytes = bytes.to_vec();
-    let called = agreed(name, operation, &Buffers::new(bytes, grid));
+    let called = agreed(name, caller, operation, &Buffers::new(bytes, grid));
     let (answer, after) = called.expect("a call of the engine");
     assert_eq!(answer, Answer::Done, "{name}");
     after.grid
 }
 
-/// The parts, added one after the other to a zero grid, give the set's grid.
-fn whole(name: &str, (size, records): &(Size, Vec<u8>), parts: &[&[u8]]) {
+/// The parts, added one after the other to a zero grid by a caller, give the set's grid.
+fn whole_by(caller: Caller, name: &str, (size, records): &(Size, Vec<u8>), parts: &[&[u8]]) {
     let zero = || Grid::zero(size.nodes());
-    let set = left(name, Operation::Scatter(*size), records, zero());
+    let scatter = Operation::Scatter(*size);
+    let set = left(name, Caller::Bench, scatter, records, zero());
     let added = parts.iter().fold(zero(), |grid, part| {
-        left(name, Operation::AddingScatter(*size), part, grid)
+        left(name, caller, Operation::AddingScatter(*size), part, grid)
     });
     assert!(added == set, "{name}: another grid than the set's");
+}
+
+/// The same by the bench.
+fn whole(name: &str, set: &(Size, Vec<u8>), parts: &[&[u8]]) {
+    whole_by(Caller::Bench, name, set, parts);
 }
 
 /// One set in two parts, cut at some records, in either order, and dealt out to many.
@@ -61,9 +68,25 @@ fn parts_of_small_sets() {
 fn parts_of_full_sets() {
     for number in 0..count().div_ceil(4_000) {
         let mut numbers = stream("parts of a full set", number);
-        let set = inputs::full_set(&mut numbers, 4_096);
+        let set = inputs::full_set(&mut numbers, Caller::Bench, 4_096);
         let cuts = [1, numbers.between(2, 4_094) as usize, 4_095];
         parts("parts of a full set", &mut numbers, &set, &cuts);
+    }
+}
+
+/// Sets of more records than the page takes, on a grid that it takes, in parts of as many as it takes.
+#[test]
+fn parts_for_the_page() {
+    let most = Caller::Page.limits().records as usize;
+    for number in 0..count().div_ceil(4_000) {
+        let name = "parts for the page";
+        let mut numbers = stream(name, number);
+        let records = numbers.between(most as i128 + 1, 4_096) as usize;
+        let set = inputs::full_set(&mut numbers, Caller::Page, records);
+        let mut parts: Vec<&[u8]> = set.1.chunks(most * RECORD_LENGTH).collect();
+        whole_by(Caller::Page, name, &set, &parts);
+        parts.reverse();
+        whole_by(Caller::Page, name, &set, &parts);
     }
 }
 
@@ -75,7 +98,8 @@ fn list(number: u64) -> BTreeSet<u32> {
     let mut seen = BTreeSet::new();
     for _ in 0..numbers.between(1, 12) {
         let (operation, before) = inputs::addition(&mut numbers, size, &grid);
-        let (answer, after) = agreed(&name, operation, &before).expect("a call of the engine");
+        let called = agreed(&name, Caller::Bench, operation, &before);
+        let (answer, after) = called.expect("a call of the engine");
         match answer.refusal() {
             Some(_) => assert!(
                 after == before,
@@ -84,7 +108,8 @@ fn list(number: u64) -> BTreeSet<u32> {
             None => {
                 let pull = |numbers: &mut Generator| numbers.one_of(&[-4096, 0, 4096]);
                 let settings = Settings::new(size, pull(&mut numbers), pull(&mut numbers));
-                left(&name, Operation::Update(settings), &[], after.grid.clone());
+                let update = Operation::Update(settings);
+                left(&name, Caller::Bench, update, &[], after.grid.clone());
             }
         }
         seen.insert(answer.refusal().map_or(0, |refusal| refusal.number));

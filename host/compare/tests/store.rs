@@ -1,5 +1,6 @@
-//! Stores: long lists of calls, each on the store that the one before left, refused ones included; stores
-//! that are damaged; lists with steps and runs between, where demand 3 holds from the bath returned to.
+//! Stores: long lists of calls of both callers, each on the store that the one before left, refused ones
+//! included; stores that are damaged; lists with steps and runs between, where demand 3 holds from the bath
+//! returned to.
 
 use std::collections::{BTreeMap, BTreeSet};
 
@@ -10,21 +11,22 @@ use reference::bath_file::{pack_file, read_file};
 use reference::conservation::Ledger;
 use reference::generator::Generator;
 use reference::limits::{HEADER_LENGTH, MAX_FILE_LENGTH, STORE_LENGTH, STORE_PLACES};
-use reference::{Refusal, Settings, Size, Store};
+use reference::{Caller, Refusal, Settings, Size, Store};
 use vectors::{Answer, Buffers, Operation};
 
 /// The bath last kept under each name and not forgotten.
 type Baths = BTreeMap<Vec<u8>, Vec<u8>>;
 
-/// Calls both; the answer and the buffers. A refused call changes nothing, and an accepted one changes
-/// the baths as it says and nothing else.
+/// Calls both for a caller; the answer and the buffers. A refused call changes nothing, and an accepted one
+/// changes the baths as it says and nothing else.
 fn call(
     told: &str,
+    caller: Caller,
     operation: Operation,
     before: &Buffers,
     baths: &mut Baths,
 ) -> (Answer, Buffers) {
-    let (answer, after) = agreed(told, operation, before).expect("a call of the engine");
+    let (answer, after) = agreed(told, caller, operation, before).expect("a call of the engine");
     let Buffers { bytes, name, .. } = before;
     match (operation, &answer) {
         (_, Answer::Refused(_)) => assert!(after == *before, "{told}: a refused call"),
@@ -77,6 +79,11 @@ fn number(answer: &Answer) -> u32 {
     answer.refusal().map_or(0, |refusal| refusal.number)
 }
 
+/// Either caller.
+fn any_caller(numbers: &mut Generator) -> Caller {
+    Caller::ALL[numbers.between(0, 1) as usize]
+}
+
 /// A list of two thousand calls; the numbers of its answers.
 fn list(input: u64) -> BTreeSet<u32> {
     let mut numbers = stream("list of a store", input);
@@ -84,8 +91,10 @@ fn list(input: u64) -> BTreeSet<u32> {
     let mut seen = BTreeSet::new();
     for k in 0..2_000 {
         let told = format!("store, COMPARE_SEED {}, input {input}, call {k}", seed());
-        let (operation, before) = inputs::store_call(&mut numbers, &store);
-        let (answer, after) = call(&told, operation, &before, &mut baths);
+        // What the bench takes and the page does not is at times given to the page.
+        let (caller, about) = (any_caller(&mut numbers), any_caller(&mut numbers));
+        let (operation, before) = inputs::store_call(&mut numbers, about, &store);
+        let (answer, after) = call(&told, caller, operation, &before, &mut baths);
         seen.insert(number(&answer));
         store = after.store;
         holds(&told, &store, &baths);
@@ -101,16 +110,19 @@ fn lists() {
     assert!(stores.iter().eq(&[0, 1, 22, 23, 24]), "only {stores:?}");
 }
 
-/// All three refuse the store with 1, whatever the name, the file and the buffer.
+/// All refuse the store with 1, whatever the name, the file and the buffer.
 fn ill_formed(told: &str, numbers: &mut Generator, store: &[u8]) {
     let given = |_: &mut Generator| store.to_vec();
+    let [bench, page] = Caller::ALL;
     let calls = [
-        inputs::keep_in(numbers, given),
-        inputs::return_from(numbers, given),
-        inputs::forget_in(numbers, given),
+        (bench, inputs::keep_in(numbers, bench, given)),
+        (page, inputs::keep_in(numbers, page, given)),
+        (bench, inputs::return_from(numbers, given)),
+        (bench, inputs::forget_in(numbers, given)),
     ];
-    for (operation, before) in calls {
-        let (answer, after) = agreed(told, operation, &before).expect("a call of the engine");
+    for (caller, (operation, before)) in calls {
+        let called = agreed(told, caller, operation, &before);
+        let (answer, after) = called.expect("a call of the engine");
         assert_eq!(
             answer,
             Answer::Refused(Refusal::at(1, 0)),
@@ -162,8 +174,10 @@ impl Floating {
 
     /// A step or a run; the number of completed steps.
     fn float(&mut self, told: &str, numbers: &mut Generator) -> usize {
-        let (operation, before) = inputs::list_call(numbers, self.settings.size, &self.records);
-        let (answer, after) = agreed(told, operation, &before).expect("a call of the engine");
+        let (caller, size) = (any_caller(numbers), self.settings.size);
+        let (operation, before) = inputs::list_call(numbers, caller, size, &self.records);
+        let called = agreed(told, caller, operation, &before);
+        let (answer, after) = called.expect("a call of the engine");
         let (done, settings) = completed(operation, &answer);
         work(done, settings, &mut self.records, &mut self.sums);
         assert_eq!(after.bytes, self.records, "{told}: the last completed step");
@@ -185,7 +199,7 @@ impl Floating {
 fn mixed(input: u64) -> (usize, usize) {
     let told = format!("floats, COMPARE_SEED {}, input {input}", seed());
     let mut numbers = stream("floats", input);
-    let (size, records) = inputs::accepted(&mut numbers);
+    let (size, records) = inputs::accepted_about_the_page(&mut numbers);
     let mut floating = Floating::of(Settings::new(size, 3, -2), &records);
     let (mut store, mut baths) = (vec![0; STORE_LENGTH], Baths::new());
     let (mut steps, mut returns) = (0, 0);
@@ -201,7 +215,8 @@ fn mixed(input: u64) -> (usize, usize) {
             _ => (Operation::Forget, Vec::new()),
         };
         let before = Buffers::of_store(store, &name, bytes);
-        let (answer, after) = call(&told, operation, &before, &mut baths);
+        let caller = any_caller(&mut numbers);
+        let (answer, after) = call(&told, caller, operation, &before, &mut baths);
         if let Answer::Length(length) = answer {
             floating.check(&told);
             let file = &after.bytes[..length];
@@ -227,44 +242,105 @@ fn floats_from_the_bath_returned_to() {
     assert!(steps > 0 && returns > 0, "{steps} steps, {returns} returns");
 }
 
+/// A store with the baths that it has to hold.
+struct Kept {
+    store: Vec<u8>,
+    baths: Baths,
+}
+
+impl Kept {
+    fn nothing() -> Self {
+        Kept {
+            store: vec![0; STORE_LENGTH],
+            baths: Baths::new(),
+        }
+    }
+
+    /// A call on the store; the number of its answer.
+    fn made(&mut self, caller: Caller, operation: Operation, name: &[u8], bytes: Vec<u8>) -> u32 {
+        let told = format!("{caller:?} {operation:?} of {name:?}");
+        let before = Buffers::of_store(std::mem::take(&mut self.store), name, bytes);
+        let (answer, after) = call(&told, caller, operation, &before, &mut self.baths);
+        holds(&told, &after.store, &self.baths);
+        self.store = after.store;
+        number(&answer)
+    }
+
+    fn returned(&mut self, name: &[u8]) -> u32 {
+        let buffer = vec![0x5A; MAX_FILE_LENGTH];
+        self.made(Caller::Bench, Operation::Return, name, buffer)
+    }
+
+    fn forgotten(&mut self, name: &[u8]) -> u32 {
+        self.made(Caller::Bench, Operation::Forget, name, Vec::new())
+    }
+}
+
 /// Four of the largest baths, each kept, returned to, replaced and forgotten, and a fifth name refused.
 #[test]
 fn four_of_the_largest_baths() {
     let names: [&[u8]; 4] = [b"ONE", b"TWO", b"THREE", b"FOUR"];
     let mut numbers = stream("the largest baths", 0);
     let mut largest = |count: usize| {
-        let (size, records) = inputs::full_set(&mut numbers, count);
+        let (size, records) = inputs::full_set(&mut numbers, Caller::Bench, count);
         pack_file(Settings::new(size, 1, -1), 9, &particles(&records))
     };
-    let (mut store, mut baths) = (vec![0; STORE_LENGTH], Baths::new());
-    let mut made = |operation: Operation, name: &[u8], bytes: Vec<u8>| {
-        let before = Buffers::of_store(std::mem::take(&mut store), name, bytes);
-        let (answer, after) = call("the largest baths", operation, &before, &mut baths);
-        holds("the largest baths", &after.store, &baths);
-        store = after.store;
-        number(&answer)
+    let mut kept = Kept::nothing();
+    let keep =
+        |kept: &mut Kept, name: &[u8], file| kept.made(Caller::Bench, Operation::Keep, name, file);
+    for name in names {
+        assert_eq!(keep(&mut kept, name, largest(4_096)), 0);
+    }
+    assert_eq!(keep(&mut kept, b"FIVE", largest(4_096)), 24);
+    assert_eq!(keep(&mut kept, b"FIVE", largest(4_097)), 3);
+    for name in names {
+        assert_eq!(kept.returned(name), 0);
+        assert_eq!(keep(&mut kept, name, largest(4_095)), 0);
+        assert_eq!(kept.returned(name), 0);
+    }
+    for name in names {
+        assert_eq!(kept.forgotten(name), 0);
+        assert_eq!(kept.forgotten(name), 23);
+    }
+    assert!(kept.store == vec![0; STORE_LENGTH]);
+}
+
+/// In a store that holds baths of the bench the page keeps its own, beside them and in place of one, and none that
+/// is too large for it.
+#[test]
+fn baths_of_both_callers() {
+    let mut numbers = stream("baths of both callers", 0);
+    let mut file = |nx: i128, ny: i128, count: usize| {
+        let size = Size::new(nx, ny);
+        let particles = numbers.particles(size, count, 9, 40);
+        pack_file(Settings::new(size, 1, -2), 9, &particles)
     };
-    for name in names {
-        assert_eq!(made(Operation::Keep, name, largest(4_096)), 0);
+    let [bench, page] = Caller::ALL;
+    let mut kept = Kept::nothing();
+    let mut keep = |caller, name: &[u8], file| kept.made(caller, Operation::Keep, name, file);
+    assert_eq!(keep(bench, b"WIDE", file(17, 5, 3)), 0);
+    assert_eq!(keep(bench, b"LARGE", file(48, 40, 4_096)), 0);
+    for (nx, ny, count, refusal) in [
+        (17, 4, 0, 2),
+        (4, 17, 0, 2),
+        (48, 16, 513, 2),
+        (16, 15, 513, 3),
+        (4, 5, 4_096, 3),
+    ] {
+        for name in [&b"WIDE"[..], b"SMALL"] {
+            assert_eq!(keep(page, name, file(nx, ny, count)), refusal);
+        }
+        assert_eq!(keep(page, b"small", file(nx, ny, count)), 22);
     }
-    assert_eq!(made(Operation::Keep, b"FIVE", largest(4_096)), 24);
-    assert_eq!(made(Operation::Keep, b"FIVE", largest(4_097)), 3);
-    for name in names {
-        assert_eq!(
-            made(Operation::Return, name, vec![0x5A; MAX_FILE_LENGTH]),
-            0
-        );
-        assert_eq!(made(Operation::Keep, name, largest(4_095)), 0);
-        assert_eq!(
-            made(Operation::Return, name, vec![0x5A; MAX_FILE_LENGTH]),
-            0
-        );
+    assert_eq!(keep(page, b"SMALL", file(16, 15, 512)), 0);
+    assert_eq!(keep(page, b"WIDE", file(15, 16, 511)), 0);
+    assert_eq!(keep(bench, b"FOURTH", file(16, 17, 513)), 0);
+    assert_eq!(keep(page, b"FIFTH", file(4, 16, 1)), 24);
+    assert_eq!(keep(page, b"FIFTH", file(4, 17, 1)), 2);
+    for name in [&b"WIDE"[..], b"LARGE", b"SMALL", b"FOURTH"] {
+        assert_eq!(kept.returned(name), 0);
+        assert_eq!(kept.forgotten(name), 0);
     }
-    for name in names {
-        assert_eq!(made(Operation::Forget, name, Vec::new()), 0);
-        assert_eq!(made(Operation::Forget, name, Vec::new()), 23);
-    }
-    assert!(store == vec![0; STORE_LENGTH]);
 }
 
 /// A store takes baths of different sizes: each file is judged by its own header.
@@ -277,7 +353,8 @@ fn baths_of_different_sizes() {
         let particles = numbers.particles(size, 30, 63, 2047);
         let file = pack_file(Settings::new(size, 4096, -4096), 10_000, &particles);
         let before = Buffers::of_store(store, name, file);
-        let (answer, after) = call("sizes", Operation::Keep, &before, &mut baths);
+        let keep = Operation::Keep;
+        let (answer, after) = call("sizes", Caller::Bench, keep, &before, &mut baths);
         assert_eq!(answer, Answer::Done);
         store = after.store;
     }

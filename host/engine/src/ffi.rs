@@ -8,15 +8,29 @@
 //! Every pointer is aligned, not null, and leads to as many initialised elements as the length after
 //! it says, or to what its type says. What is written to overlaps nothing else of the call.
 
-#[allow(missing_docs)]
-unsafe extern "C" {
-    pub fn gondwize_read_record(
-        bytes: *const u8,
-        bytes_length: usize,
-        values: *mut [i64; 11],
-    ) -> u64;
+macro_rules! function {
+    ($name:ident($($parameter:ident: $type:ty),* $(,)?)) => {
+        #[allow(missing_docs)]
+        unsafe extern "C" {
+            pub fn $name($($parameter: $type),*) -> u64;
+        }
+    };
+}
 
-    pub fn gondwize_write_record(
+/// Declares each function and, behind a comma, the lesson page's with the same parameters.
+macro_rules! functions {
+    ($(fn $name:ident $parameters:tt $(, $page:ident)?;)*) => {
+        $(
+            function! { $name $parameters }
+            $(function! { $page $parameters })?
+        )*
+    };
+}
+
+functions! {
+    fn gondwize_read_record(bytes: *const u8, bytes_length: usize, values: *mut [i64; 11]);
+
+    fn gondwize_write_record(
         identifier: u16,
         mass: u64,
         x: u64,
@@ -30,27 +44,27 @@ unsafe extern "C" {
         marks: u8,
         bytes: *mut u8,
         bytes_length: usize,
-    ) -> u64;
+    );
 
-    pub fn gondwize_check_set(
+    fn gondwize_check_set(
         nx: usize,
         ny: usize,
         records: *const u8,
         records_length: usize,
         count: *mut u64,
-    ) -> u64;
+    ), gondwize_page_check_set;
 
-    pub fn gondwize_totals(
+    fn gondwize_totals(
         nx: usize,
         ny: usize,
         records: *const u8,
         records_length: usize,
         values: *mut [i64; 6],
-    ) -> u64;
+    ), gondwize_page_totals;
 
-    pub fn gondwize_weights(q: i64, values: *mut [i64; 3]) -> u64;
+    fn gondwize_weights(q: i64, values: *mut [i64; 3]);
 
-    pub fn gondwize_scatter(
+    fn gondwize_scatter(
         nx: usize,
         ny: usize,
         records: *const u8,
@@ -61,9 +75,9 @@ unsafe extern "C" {
         px_length: usize,
         py: *mut i64,
         py_length: usize,
-    ) -> u64;
+    ), gondwize_page_scatter;
 
-    pub fn gondwize_adding_scatter(
+    fn gondwize_adding_scatter(
         nx: usize,
         ny: usize,
         records: *const u8,
@@ -74,9 +88,9 @@ unsafe extern "C" {
         px_length: usize,
         py: *mut i64,
         py_length: usize,
-    ) -> u64;
+    ), gondwize_page_adding_scatter;
 
-    pub fn gondwize_update(
+    fn gondwize_update(
         nx: usize,
         ny: usize,
         gx: i64,
@@ -90,9 +104,9 @@ unsafe extern "C" {
         px_length: usize,
         py: *mut i64,
         py_length: usize,
-    ) -> u64;
+    ), gondwize_page_update;
 
-    pub fn gondwize_gather(
+    fn gondwize_gather(
         nx: usize,
         ny: usize,
         records: *mut u8,
@@ -101,9 +115,9 @@ unsafe extern "C" {
         ux_length: usize,
         uy: *const i64,
         uy_length: usize,
-    ) -> u64;
+    ), gondwize_page_gather;
 
-    pub fn gondwize_step(
+    fn gondwize_step(
         nx: usize,
         ny: usize,
         gx: i64,
@@ -119,9 +133,9 @@ unsafe extern "C" {
         px_length: usize,
         py: *mut i64,
         py_length: usize,
-    ) -> u64;
+    ), gondwize_page_step;
 
-    pub fn gondwize_run(
+    fn gondwize_run(
         nx: usize,
         ny: usize,
         gx: i64,
@@ -139,11 +153,15 @@ unsafe extern "C" {
         py: *mut i64,
         py_length: usize,
         completed: *mut u64,
-    ) -> u64;
+    ), gondwize_page_run;
 
-    pub fn gondwize_read_file(bytes: *const u8, bytes_length: usize, values: *mut [i64; 9]) -> u64;
+    fn gondwize_read_file(
+        bytes: *const u8,
+        bytes_length: usize,
+        values: *mut [i64; 9],
+    ), gondwize_page_read_file;
 
-    pub fn gondwize_write_header(
+    fn gondwize_write_header(
         nx: usize,
         ny: usize,
         gx: i64,
@@ -155,18 +173,18 @@ unsafe extern "C" {
         drag: usize,
         bytes: *mut u8,
         bytes_length: usize,
-    ) -> u64;
+    );
 
-    pub fn gondwize_keep(
+    fn gondwize_keep(
         store: *mut u8,
         store_length: usize,
         name: *const u8,
         name_length: usize,
         file: *const u8,
         file_length: usize,
-    ) -> u64;
+    ), gondwize_page_keep;
 
-    pub fn gondwize_return(
+    fn gondwize_return(
         store: *const u8,
         store_length: usize,
         name: *const u8,
@@ -174,12 +192,7 @@ unsafe extern "C" {
         buffer: *mut u8,
         buffer_length: usize,
         length: *mut u64,
-    ) -> u64;
+    );
 
-    pub fn gondwize_forget(
-        store: *mut u8,
-        store_length: usize,
-        name: *const u8,
-        name_length: usize,
-    ) -> u64;
+    fn gondwize_forget(store: *mut u8, store_length: usize, name: *const u8, name_length: usize);
 }

@@ -34,6 +34,9 @@
 //! | read a file, write its header | [`read_file`], [`write_header`] |
 //! | keep a bath under a name, return to it, forget it | [`keep`], [`return_to`], [`forget`] |
 //!
+//! These are the bench's. [`page`] has those of them that check a size, a set or a file with the smaller limits
+//! of the lesson page.
+//!
 //! [`affine_flow`] says whether a bath file is a flow that a step gives back exactly. It is written in Rust,
 //! over [`read_file`] and [`read_record`], and not proved.
 //!
@@ -48,9 +51,10 @@ pub mod ffi;
 mod flow;
 #[allow(unsafe_code)]
 pub mod library;
+pub mod page;
 mod refusal;
 
-use library::PROVED;
+use library::{Library, PROVED};
 
 pub use flow::{affine_flow, Flow, NoFlow};
 pub use refusal::{Limit, Refusal};
@@ -105,7 +109,7 @@ pub struct Particle {
     pub marks: u8,
 }
 
-/// Number of nodes along each axis, 4 to 48.
+/// Number of nodes along each axis, 4 to 48; for the lesson page to [`page::MOST_NODES`].
 #[derive(Clone, Copy, Debug, PartialEq, Eq, Hash)]
 pub struct Size {
     /// Nodes along the x axis.
@@ -219,7 +223,7 @@ pub struct Header {
     pub gx: i64,
     /// Gravity on the y axis.
     pub gy: i64,
-    /// Number of records, at most 4096.
+    /// Number of records, at most 4096; for the lesson page [`page::MOST_RECORDS`].
     pub count: usize,
     /// Number of steps wanted, at most 10,000.
     pub steps: usize,
@@ -266,6 +270,63 @@ pub struct RunAnswer {
 /// A value of a result in its field's type, which the engine's contracts keep it within.
 fn field<T: TryFrom<i64>>(value: i64) -> T {
     T::try_from(value).ok().expect("a value within its field")
+}
+
+/// The number of a set's records, by either caller's library.
+fn count_by(library: &Library, size: Size, records: &[u8]) -> Result<usize, Refusal> {
+    let mut count = 0;
+    Refusal::check(library.check_set(size, records, &mut count))?;
+    Ok(count as usize)
+}
+
+/// A set's totals, by either caller's library.
+fn totals_by(library: &Library, size: Size, records: &[u8]) -> Result<Totals, Refusal> {
+    let mut values = [0; 6];
+    Refusal::check(library.totals(size, records, &mut values))?;
+    let [mass, px, py, angular_momentum, motion, marks] = values;
+    Ok(Totals {
+        mass,
+        px,
+        py,
+        angular_momentum,
+        motion,
+        marks,
+    })
+}
+
+/// A run, by either caller's library.
+fn run_by(
+    library: &Library,
+    settings: Settings,
+    steps: usize,
+    records: &mut [u8],
+    grid: &mut GridBuffers,
+) -> RunAnswer {
+    let mut completed = 0;
+    let code = library.run(settings, steps, records, grid, &mut completed);
+    RunAnswer {
+        completed: completed as usize,
+        refusal: Refusal::from_code(code),
+    }
+}
+
+/// The values of a file's header, by either caller's library.
+fn header_by(library: &Library, bytes: &[u8]) -> Result<Header, Refusal> {
+    let mut values = [0; 9];
+    Refusal::check(library.read_file(bytes, &mut values))?;
+    let [nx, ny, gx, gy, count, steps, kind, width, drag] = values;
+    Ok(Header {
+        size: Size {
+            nx: field(nx),
+            ny: field(ny),
+        },
+        gx,
+        gy,
+        count: field(count),
+        steps: field(steps),
+        edge: Edge::of_file(kind, width),
+        drag: field(drag),
+    })
 }
 
 /// Reads a record.
@@ -341,9 +402,7 @@ pub fn write_record(particle: &Particle, bytes: &mut [u8]) -> Result<(), Refusal
 /// 2; 1 length not a multiple of 15 or above 61,440; then for each record 4, 5, 6, 7 off the grid, 8,
 /// 9.
 pub fn check_set(size: Size, records: &[u8]) -> Result<usize, Refusal> {
-    let mut count = 0;
-    Refusal::check(PROVED.check_set(size, records, &mut count))?;
-    Ok(count as usize)
+    count_by(&PROVED, size, records)
 }
 
 /// Totals of a set.
@@ -366,17 +425,7 @@ pub fn check_set(size: Size, records: &[u8]) -> Result<usize, Refusal> {
 ///
 /// As [`check_set`].
 pub fn totals(size: Size, records: &[u8]) -> Result<Totals, Refusal> {
-    let mut values = [0; 6];
-    Refusal::check(PROVED.totals(size, records, &mut values))?;
-    let [mass, px, py, angular_momentum, motion, marks] = values;
-    Ok(Totals {
-        mass,
-        px,
-        py,
-        angular_momentum,
-        motion,
-        marks,
-    })
+    totals_by(&PROVED, size, records)
 }
 
 /// The weights of the lower, the nearest and the upper node of one axis for a particle at offset q
@@ -553,12 +602,7 @@ pub fn run(
     records: &mut [u8],
     grid: &mut GridBuffers,
 ) -> RunAnswer {
-    let mut completed = 0;
-    let code = PROVED.run(settings, steps, records, grid, &mut completed);
-    RunAnswer {
-        completed: completed as usize,
-        refusal: Refusal::from_code(code),
-    }
+    run_by(&PROVED, settings, steps, records, grid)
 }
 
 /// Reads a bath file: the header's values. The records lie from byte 11 on. The edge is one of the first
@@ -580,21 +624,7 @@ pub fn run(
 ///
 /// 1 shorter than 11; 2; 10; 18; 3; 17; 16; 1 length not 11 + 15·count; then the set.
 pub fn read_file(bytes: &[u8]) -> Result<Header, Refusal> {
-    let mut values = [0; 9];
-    Refusal::check(PROVED.read_file(bytes, &mut values))?;
-    let [nx, ny, gx, gy, count, steps, kind, width, drag] = values;
-    Ok(Header {
-        size: Size {
-            nx: field(nx),
-            ny: field(ny),
-        },
-        gx,
-        gy,
-        count: field(count),
-        steps: field(steps),
-        edge: Edge::of_file(kind, width),
-        drag: field(drag),
-    })
+    header_by(&PROVED, bytes)
 }
 
 /// Writes a bath file's header into the buffer, spare bits zero.

@@ -137,29 +137,48 @@ pub struct Library {
     functions: Functions,
 }
 
-/// The static library of the proved crates.
-pub const PROVED: Library = {
-    let functions = Functions {
-        read_record: ffi::gondwize_read_record,
-        write_record: ffi::gondwize_write_record,
-        check_set: ffi::gondwize_check_set,
-        totals: ffi::gondwize_totals,
-        weights: ffi::gondwize_weights,
-        scatter: ffi::gondwize_scatter,
-        adding_scatter: ffi::gondwize_adding_scatter,
-        update: ffi::gondwize_update,
-        gather: ffi::gondwize_gather,
-        step: ffi::gondwize_step,
-        run: ffi::gondwize_run,
-        read_file: ffi::gondwize_read_file,
-        write_header: ffi::gondwize_write_header,
-        keep: ffi::gondwize_keep,
-        return_to: ffi::gondwize_return,
-        forget: ffi::gondwize_forget,
-    };
-    // SAFETY: `include/gondwize.h` promises it of each function.
-    unsafe { Library::new(functions) }
+/// The bench's functions of the static library.
+const BENCH_FUNCTIONS: Functions = Functions {
+    read_record: ffi::gondwize_read_record,
+    write_record: ffi::gondwize_write_record,
+    check_set: ffi::gondwize_check_set,
+    totals: ffi::gondwize_totals,
+    weights: ffi::gondwize_weights,
+    scatter: ffi::gondwize_scatter,
+    adding_scatter: ffi::gondwize_adding_scatter,
+    update: ffi::gondwize_update,
+    gather: ffi::gondwize_gather,
+    step: ffi::gondwize_step,
+    run: ffi::gondwize_run,
+    read_file: ffi::gondwize_read_file,
+    write_header: ffi::gondwize_write_header,
+    keep: ffi::gondwize_keep,
+    return_to: ffi::gondwize_return,
+    forget: ffi::gondwize_forget,
 };
+
+/// The lesson page's functions, with the bench's that know no caller.
+const PAGE_FUNCTIONS: Functions = Functions {
+    check_set: ffi::gondwize_page_check_set,
+    totals: ffi::gondwize_page_totals,
+    scatter: ffi::gondwize_page_scatter,
+    adding_scatter: ffi::gondwize_page_adding_scatter,
+    update: ffi::gondwize_page_update,
+    gather: ffi::gondwize_page_gather,
+    step: ffi::gondwize_page_step,
+    run: ffi::gondwize_page_run,
+    read_file: ffi::gondwize_page_read_file,
+    keep: ffi::gondwize_page_keep,
+    ..BENCH_FUNCTIONS
+};
+
+/// The static library of the proved crates, as the bench calls it.
+// SAFETY: `include/gondwize.h` promises it of each function.
+pub const PROVED: Library = unsafe { Library::new(BENCH_FUNCTIONS) };
+
+/// The same library, as the lesson page calls it.
+// SAFETY: as above.
+pub const PAGE: Library = unsafe { Library::new(PAGE_FUNCTIONS) };
 
 // SAFETY, of every call below: the pointers are those of slices with their lengths and of arrays and
 // numbers, what is written to is borrowed by itself, and [`Library::new`] was given functions that ask

@@ -30,8 +30,8 @@ macro_rules! limits {
 
 limits! {
     1 Length "a record, set, grid, file, buffer or store has the wrong length, or a store the wrong form",
-    2 GridSize "nx or ny is not 4 to 48",
-    3 Count "the count is above 4096",
+    2 GridSize "nx or ny is not 4 to 48, or for the lesson page 4 to 16",
+    3 Count "the count is above 4096, or for the lesson page above 512",
     4 Mass "a mass is not 1 to 1023",
     5 Velocity "a velocity is not -63 to 63",
     6 Affine "an entry of B is not -2047 to 2047",

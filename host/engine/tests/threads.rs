@@ -3,8 +3,8 @@
 use std::thread;
 
 use engine::{
-    adding_scatter, check_set, forget, gather, keep, read_file, return_to, run, scatter, step,
-    totals, update, write_header, write_record,
+    adding_scatter, check_set, forget, gather, keep, page, read_file, return_to, run, scatter,
+    step, totals, update, write_header, write_record,
 };
 use engine::{Edge, GridBuffers, Header, Limit, Particle, Refusal, Settings, Size};
 use engine::{HEADER_LENGTH, MOST_FILE_LENGTH, RECORD_LENGTH, STORE_LENGTH};
@@ -28,15 +28,25 @@ struct Bath {
 
 impl Bath {
     fn new(count: usize) -> Self {
-        let size = Size { nx: 48, ny: 48 };
+        Bath::on(Size { nx: 48, ny: 48 }, count, 64, 43)
+    }
+
+    /// The same on the page's largest grid.
+    fn of_the_page(count: usize) -> Self {
+        let most = page::MOST_NODES;
+        Bath::on(Size { nx: most, ny: most }, count, 26, 34)
+    }
+
+    /// In so many columns, and so far apart.
+    fn on(size: Size, count: usize, columns: u64, apart: u64) -> Self {
         let nodes = size.nx * size.ny;
         let mut records = vec![0; RECORD_LENGTH * count];
         for (k, record) in records.chunks_exact_mut(RECORD_LENGTH).enumerate() {
             let particle = Particle {
                 identifier: k as u16,
                 mass: 32,
-                x: 40 + 43 * (k as u64 % 64),
-                y: 40 + 43 * (k as u64 / 64),
+                x: 40 + apart * (k as u64 % columns),
+                y: 40 + apart * (k as u64 / columns),
                 marks: (7 * k) as u8,
                 ..Particle::default()
             };
@@ -73,6 +83,38 @@ impl Bath {
         update(settings, &mut GridBuffers { mass, x, y })?;
         gather(size, records, x, y)?;
         step(settings, records, &mut GridBuffers { mass, x, y })
+    }
+
+    /// A run of the page of so many steps, and a step.
+    fn page_run(&mut self, steps: usize) -> Result<(), Refusal> {
+        let Bath {
+            settings,
+            records,
+            mass,
+            velocity: [x, y],
+        } = self;
+        let grid = &mut GridBuffers { mass, x, y };
+        let ran = page::run(*settings, steps, records, grid);
+        assert_eq!(ran.completed, steps, "{:?}", ran.refusal);
+        page::step(*settings, records, grid)
+    }
+
+    /// The page's other operations on the set.
+    fn page_calls(&mut self) -> Result<(), Refusal> {
+        let Bath {
+            settings,
+            records,
+            mass,
+            velocity: [x, y],
+        } = self;
+        let (settings, size) = (*settings, settings.size);
+        let grid = &mut GridBuffers { mass, x, y };
+        page::check_set(size, records)?;
+        page::totals(size, records)?;
+        page::scatter(size, records, grid)?;
+        page::adding_scatter(size, records, grid)?;
+        page::update(settings, grid)?;
+        page::gather(size, records, grid.x, grid.y)
     }
 
     /// The set added to a grid of zeros, and to that of itself.
@@ -179,6 +221,24 @@ fn the_largest_set() {
             read_file(&file)
         };
         assert!(with_stack(256, calls).is_ok(), "{count}");
+    }
+}
+
+/// The largest set of the page runs where that of the bench would not.
+#[test]
+fn sets_of_the_page() {
+    for count in [0, 1, 64, 65, page::MOST_RECORDS] {
+        let mut bath = Bath::of_the_page(count);
+        let file = bath.file();
+        let mut store = vec![0; STORE_LENGTH];
+        let runs = || {
+            bath.page_run(0)?;
+            bath.page_run(9)?;
+            page::keep(&mut store, b"PAGE", &file)?;
+            page::read_file(&file)
+        };
+        assert!(with_stack(64, runs).is_ok(), "{count}");
+        assert_eq!(with_stack(128, || bath.page_calls()), Ok(()), "{count}");
     }
 }
 

@@ -1,7 +1,5 @@
 //! The functions by C's calling convention, so that both libraries are called in the same way.
 
-use std::slice::{from_raw_parts, from_raw_parts_mut};
-
 macro_rules! pointer {
     (read $element:ty) => { *const $element };
     (write $element:ty) => { *mut $element };
@@ -9,17 +7,25 @@ macro_rules! pointer {
 
 macro_rules! slice {
     (read $slice:ident $length:ident) => {
-        from_raw_parts($slice, $length)
+        std::slice::from_raw_parts($slice, $length)
     };
     (write $slice:ident $length:ident) => {
-        from_raw_parts_mut($slice, $length)
+        std::slice::from_raw_parts_mut($slice, $length)
     };
 }
 
-/// For each function: its numbers, then its slices as pointers with lengths, then the values that it
-/// hands out as a pointer, in the header's order.
+/// A function's call: for a caller, or without.
+macro_rules! call {
+    ([] $name:ident $($argument:ident)*) => { crate::$name($($argument),*) };
+    ([$caller:ident] $name:ident $($argument:ident)*) => {
+        crate::$name(crate::Caller::$caller, $($argument),*)
+    };
+}
+
+/// The caller in brackets, or none. For each function: its numbers, then its slices as pointers with
+/// lengths, then the values that it hands out as a pointer, in the header's order.
 macro_rules! exports {
-    ($(
+    ($caller:tt $(
         $(#[$doc:meta])*
         $name:ident(
             $($number:ident: $type:ty),*;
@@ -44,23 +50,45 @@ macro_rules! exports {
                 $(let $slice = unsafe { slice!($kind $slice $length) };)*
                 // SAFETY: as above.
                 $(let $out = unsafe { &mut *$out };)?
-                crate::$name($($number,)* $($slice,)* $($out,)?)
+                call!($caller $name $($number)* $($slice)* $($out)?)
             }
         )*
     };
 }
 
+/// The same functions for the bench, and in a module for the lesson page.
+macro_rules! callers {
+    ($($functions:tt)*) => {
+        exports! { [Bench] $($functions)* }
+
+        /// The lesson page's functions.
+        pub mod page {
+            exports! { [Page] $($functions)* }
+        }
+    };
+}
+
 exports! {
+    []
     /// Read a record.
     read_record(; bytes bytes_length: read u8; values: [i64; 11]);
     /// Write a record.
     write_record(identifier: u16, mass: u64, x: u64, y: u64, vx: i64, vy: i64, bxx: i64, bxy: i64, byx: i64, byy: i64, marks: u8; bytes bytes_length: write u8);
+    /// Weights.
+    weights(q: i64; ; values: [i64; 3]);
+    /// Write a header.
+    write_header(nx: usize, ny: usize, gx: i64, gy: i64, count: usize, steps: usize, kind: usize, width: usize, drag: usize; bytes bytes_length: write u8);
+    /// Return.
+    return_to(; store store_length: read u8, name name_length: read u8, buffer buffer_length: write u8; length: u64);
+    /// Forget.
+    forget(; store store_length: write u8, name name_length: read u8);
+}
+
+callers! {
     /// Check a set.
     check_set(nx: usize, ny: usize; records records_length: read u8; count: u64);
     /// Totals.
     totals(nx: usize, ny: usize; records records_length: read u8; values: [i64; 6]);
-    /// Weights.
-    weights(q: i64; ; values: [i64; 3]);
     /// Scatter.
     scatter(nx: usize, ny: usize; records records_length: read u8, mass mass_length: write u64, px px_length: write i64, py py_length: write i64);
     /// Adding scatter.
@@ -75,12 +103,6 @@ exports! {
     run(nx: usize, ny: usize, gx: i64, gy: i64, kind: usize, width: usize, drag: usize, steps: usize; records records_length: write u8, mass mass_length: write u64, px px_length: write i64, py py_length: write i64; completed: u64);
     /// Read a file.
     read_file(; bytes bytes_length: read u8; values: [i64; 9]);
-    /// Write a header.
-    write_header(nx: usize, ny: usize, gx: i64, gy: i64, count: usize, steps: usize, kind: usize, width: usize, drag: usize; bytes bytes_length: write u8);
     /// Keep.
     keep(; store store_length: write u8, name name_length: read u8, file file_length: read u8);
-    /// Return.
-    return_to(; store store_length: read u8, name name_length: read u8, buffer buffer_length: write u8; length: u64);
-    /// Forget.
-    forget(; store store_length: write u8, name name_length: read u8);
 }

@@ -1,5 +1,6 @@
 //! A bath file: its header of 11 bytes, as two words that overlap, and its records.
 
+use crate::caller::{Caller, Limits};
 use crate::particle::RECORD_LENGTH;
 use crate::set::{check_records, MOST};
 use crate::settings::Settings;
@@ -16,12 +17,16 @@ const MOST_STEPS: usize = 10_000;
 /// The spare bits of the second word, after the steps and at the end.
 const SPARE: u64 = 0x1F_000F;
 
-fn check_values(settings: &Settings, count: usize, steps: usize) -> Result<(), u64> {
-    settings.check_size()?;
+#[inline(always)]
+fn check_values(
+    limits: Limits,
+    settings: &Settings,
+    count: usize,
+    steps: usize,
+) -> Result<(), u64> {
+    limits.check_size(settings.nx, settings.ny)?;
     settings.check_forces()?;
-    if count > MOST {
-        return Err(refused(3, 0));
-    }
+    limits.check_count(count)?;
     if steps > MOST_STEPS {
         return Err(refused(17, 0));
     }
@@ -40,7 +45,8 @@ fn count_in(second: u64) -> usize {
 }
 
 /// The values of an accepted file.
-pub fn found(bytes: &[u8]) -> Result<[i64; 9], u64> {
+#[inline(always)]
+pub fn found(limits: Limits, bytes: &[u8]) -> Result<[i64; 9], u64> {
     let Some((header, records)) = bytes.split_first_chunk::<HEADER_LENGTH>() else {
         return Err(refused(1, 0));
     };
@@ -55,7 +61,7 @@ pub fn found(bytes: &[u8]) -> Result<[i64; 9], u64> {
         drag: (second >> 4 & 255) as usize,
     };
     let (count, steps) = (count_in(second), (second >> 21 & 16_383) as usize);
-    check_values(&settings, count, steps)?;
+    check_values(limits, &settings, count, steps)?;
     if second & SPARE != 0 {
         return Err(refused(16, 0));
     }
@@ -77,17 +83,18 @@ pub fn found(bytes: &[u8]) -> Result<[i64; 9], u64> {
     Ok([nx, ny, gx, gy, count, steps, kind, width, drag])
 }
 
-/// The length of the file at the front of these bytes, if it is accepted.
+/// The length of the file at the front of these bytes, if it is accepted for the bench.
 pub fn front(bytes: &[u8; MOST_LENGTH]) -> Option<usize> {
     let [_, second] = words(bytes.first_chunk()?);
     let length = HEADER_LENGTH + RECORD_LENGTH * count_in(second);
-    found(bytes.get(..length)?).ok()?;
+    found(Caller::Bench.limits(), bytes.get(..length)?).ok()?;
     Some(length)
 }
 
 /// Read a file: nine values.
-pub fn read_file(bytes: &[u8], values: &mut [i64; 9]) -> u64 {
-    match found(bytes) {
+#[inline(always)]
+pub fn read_file(caller: Caller, bytes: &[u8], values: &mut [i64; 9]) -> u64 {
+    match found(caller.limits(), bytes) {
         Ok(header) => {
             *values = header;
             0
@@ -100,7 +107,7 @@ fn written(settings: &Settings, count: usize, steps: usize, bytes: &mut [u8]) ->
     let Ok(header) = <&mut [u8; HEADER_LENGTH]>::try_from(bytes) else {
         return Err(refused(1, 0));
     };
-    check_values(settings, count, steps)?;
+    check_values(Caller::Bench.limits(), settings, count, steps)?;
     let first = (settings.nx as u64) << 58
         | (settings.ny as u64) << 52
         | (settings.gx as u64 & 16_383) << 38

@@ -1,14 +1,16 @@
-//! Document 01 with document 02's Papers 1 to 6 and 8 in Rust, written for speed: what the proved engine
-//! is measured against.
+//! Document 01 with document 02's Papers 1 to 6, 8 and 9 in Rust, written for speed: what the proved
+//! engine is measured against.
 //!
 //! The functions take what those of `include/gondwize.h` take, in the same order, a slice for each
-//! pointer with its length, and answer the same numbers. Records are unpacked once per call, as two
+//! pointer with its length, and answer the same numbers; those that serve both callers take the caller
+//! before. Records are unpacked once per call, as two
 //! words each, and packed without identifier and marks, which no step changes; scratch memory is on the
 //! stack and never cleared; indices that the checks have shown to be in range are not checked again.
 
 #![warn(missing_docs)]
 
 pub mod c;
+mod caller;
 mod file;
 mod particle;
 mod rounding;
@@ -20,6 +22,7 @@ mod store;
 mod transfer;
 mod update;
 
+pub use caller::Caller;
 pub use file::{read_file, write_header};
 pub use particle::{read_record, write_record};
 pub use set::{check_set, totals};

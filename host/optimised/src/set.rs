@@ -2,8 +2,10 @@
 
 use std::mem::MaybeUninit;
 
+use crate::caller::{Caller, Limits};
 use crate::particle::{Particle, Record, RECORD_LENGTH};
 use crate::refused;
+use crate::update::check_lengths;
 
 /// The largest number of records.
 pub const MOST: usize = 4096;
@@ -19,22 +21,29 @@ pub fn last(n: usize) -> i32 {
     (64 * (n - 1) - 33) as i32
 }
 
-/// Whether Nx and Ny are 4 to 48.
-pub fn check_size(nx: usize, ny: usize) -> Result<(), u64> {
-    if (4..=48).contains(&nx) && (4..=48).contains(&ny) {
-        Ok(())
-    } else {
-        Err(refused(2, 0))
-    }
-}
-
-/// Whether as many bytes are whole records, and not too many.
-pub fn check_length(bytes: usize) -> Result<(), u64> {
+/// Whether as many bytes are whole records, and not too many for any caller.
+#[inline(always)]
+fn check_length(bytes: usize) -> Result<(), u64> {
     if bytes.is_multiple_of(RECORD_LENGTH) && bytes <= MOST * RECORD_LENGTH {
         Ok(())
     } else {
         Err(refused(1, 0))
     }
+}
+
+/// Whether the size, the lengths of records and grids, and the number of records are valid.
+#[inline(always)]
+pub fn check_given<const N: usize>(
+    limits: Limits,
+    nx: usize,
+    ny: usize,
+    bytes: usize,
+    grids: [usize; N],
+) -> Result<(), u64> {
+    limits.check_size(nx, ny)?;
+    check_length(bytes)?;
+    check_lengths(nx * ny, grids)?;
+    limits.check_count(bytes / RECORD_LENGTH)
 }
 
 /// Checks every record and hands each to `found`.
@@ -98,16 +107,17 @@ pub fn pack(particles: &[Particle], records: &mut [u8]) {
 }
 
 /// The number of records of an accepted set.
-fn checked(nx: usize, ny: usize, records: &[u8]) -> Result<usize, u64> {
-    check_size(nx, ny)?;
-    check_length(records.len())?;
+#[inline(always)]
+fn checked(limits: Limits, nx: usize, ny: usize, records: &[u8]) -> Result<usize, u64> {
+    check_given(limits, nx, ny, records.len(), [])?;
     check_records(nx, ny, records)?;
     Ok(records.len() / RECORD_LENGTH)
 }
 
 /// Check a set: the number of records.
-pub fn check_set(nx: usize, ny: usize, records: &[u8], count: &mut u64) -> u64 {
-    match checked(nx, ny, records) {
+#[inline(always)]
+pub fn check_set(caller: Caller, nx: usize, ny: usize, records: &[u8], count: &mut u64) -> u64 {
+    match checked(caller.limits(), nx, ny, records) {
         Ok(found) => {
             *count = found as u64;
             0
@@ -117,9 +127,9 @@ pub fn check_set(nx: usize, ny: usize, records: &[u8], count: &mut u64) -> u64 {
 }
 
 /// The sums over an accepted set.
-fn summed(nx: usize, ny: usize, records: &[u8]) -> Result<[i64; 6], u64> {
-    check_size(nx, ny)?;
-    check_length(records.len())?;
+#[inline(always)]
+fn summed(limits: Limits, nx: usize, ny: usize, records: &[u8]) -> Result<[i64; 6], u64> {
+    check_given(limits, nx, ny, records.len(), [])?;
     let [mut mass, mut px, mut py, mut spin, mut motion, mut marks] = [0; 6];
     walk(nx, ny, records, |_, record| {
         let p = record.particle;
@@ -138,8 +148,9 @@ fn summed(nx: usize, ny: usize, records: &[u8]) -> Result<[i64; 6], u64> {
 }
 
 /// Totals: six values.
-pub fn totals(nx: usize, ny: usize, records: &[u8], values: &mut [i64; 6]) -> u64 {
-    match summed(nx, ny, records) {
+#[inline(always)]
+pub fn totals(caller: Caller, nx: usize, ny: usize, records: &[u8], values: &mut [i64; 6]) -> u64 {
+    match summed(caller.limits(), nx, ny, records) {
         Ok(sums) => {
             *values = sums;
             0

@@ -1,7 +1,6 @@
 //! The settings of an update, a step and a run, and their checks.
 
 use crate::refused;
-use crate::set::check_size;
 
 /// The grid's size, gravity, the edge by kind and width, and drag.
 #[derive(Clone, Copy)]
@@ -41,16 +40,6 @@ impl Settings {
             width,
             drag,
         }
-    }
-
-    /// Whether the grid's size is valid.
-    pub fn check_size(&self) -> Result<(), u64> {
-        check_size(self.nx, self.ny)
-    }
-
-    /// The number of nodes.
-    pub fn nodes(&self) -> usize {
-        self.nx * self.ny
     }
 
     /// Whether gravity is −4096 to 4096, the edge open with width 0 or sticky or slip with width 1 to

@@ -2,12 +2,13 @@
 
 use std::mem::MaybeUninit;
 
+use crate::caller::{Caller, Limits};
 use crate::refused;
-use crate::set::{check_length, pack, unpack, Room, MOST};
+use crate::set::{check_given, pack, unpack, Room, MOST};
 use crate::settings::Settings;
 use crate::spline::table;
 use crate::transfer::{gather_all, scatter_all};
-use crate::update::{check_lengths, update_all};
+use crate::update::update_all;
 
 /// The completed steps, and the refusal if one stopped the run, of a set of checked length.
 #[inline(never)]
@@ -49,7 +50,9 @@ fn run_set(
 }
 
 /// The completed steps, and the refusal if one stopped the run.
+#[inline(always)]
 fn ran(
+    limits: Limits,
     settings: &Settings,
     steps: usize,
     records: &mut [u8],
@@ -58,9 +61,8 @@ fn ran(
     py: &mut [i64],
 ) -> Result<usize, (usize, u64)> {
     let entry = || {
-        settings.check_size()?;
-        check_length(records.len())?;
-        check_lengths(settings.nodes(), [mass.len(), px.len(), py.len()])?;
+        let grids = [mass.len(), px.len(), py.len()];
+        check_given(limits, settings.nx, settings.ny, records.len(), grids)?;
         settings.check_forces()?;
         if steps > 10_000 {
             Err(refused(17, 0))
@@ -74,7 +76,9 @@ fn ran(
 
 /// Step.
 #[allow(clippy::too_many_arguments)]
+#[inline(always)]
 pub fn step(
+    caller: Caller,
     nx: usize,
     ny: usize,
     gx: i64,
@@ -88,7 +92,7 @@ pub fn step(
     py: &mut [i64],
 ) -> u64 {
     let settings = Settings::new(nx, ny, gx, gy, kind, width, drag);
-    match ran(&settings, 1, records, mass, px, py) {
+    match ran(caller.limits(), &settings, 1, records, mass, px, py) {
         Ok(_) => 0,
         Err((_, refusal)) => refusal,
     }
@@ -96,7 +100,9 @@ pub fn step(
 
 /// Run: the number of completed steps.
 #[allow(clippy::too_many_arguments)]
+#[inline(always)]
 pub fn run(
+    caller: Caller,
     nx: usize,
     ny: usize,
     gx: i64,
@@ -112,7 +118,7 @@ pub fn run(
     completed: &mut u64,
 ) -> u64 {
     let settings = Settings::new(nx, ny, gx, gy, kind, width, drag);
-    let (count, answer) = match ran(&settings, steps, records, mass, px, py) {
+    let (count, answer) = match ran(caller.limits(), &settings, steps, records, mass, px, py) {
         Ok(count) => (count, 0),
         Err(stopped) => stopped,
     };

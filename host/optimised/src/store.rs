@@ -1,6 +1,7 @@
 //! A store of baths by name: its form is looked at in place, and a call writes only the name, the
 //! file and, after it, what is left of a longer one.
 
+use crate::caller::{Caller, Limits};
 use crate::file::{found, front, MOST_LENGTH};
 use crate::{answer, refused};
 
@@ -89,10 +90,11 @@ fn known(places: &[Held; PLACES], name: Name) -> Result<(usize, usize), u64> {
     Ok((PLACE_LENGTH * place, places[place].length))
 }
 
-fn kept(store: &mut [u8], name: &[u8], file: &[u8]) -> Result<(), u64> {
+#[inline(always)]
+fn kept(limits: Limits, store: &mut [u8], name: &[u8], file: &[u8]) -> Result<(), u64> {
     let places = look(store)?;
     let name = checked(name)?;
-    found(file)?;
+    found(limits, file)?;
     let place = position(&places, name).or_else(|| position(&places, FREE));
     let place = place.ok_or(refused(24, 0))?;
     let (head, room) = store[PLACE_LENGTH * place..].split_at_mut(NAME_LENGTH);
@@ -104,8 +106,9 @@ fn kept(store: &mut [u8], name: &[u8], file: &[u8]) -> Result<(), u64> {
 }
 
 /// Keep.
-pub fn keep(store: &mut [u8], name: &[u8], file: &[u8]) -> u64 {
-    answer(kept(store, name, file))
+#[inline(always)]
+pub fn keep(caller: Caller, store: &mut [u8], name: &[u8], file: &[u8]) -> u64 {
+    answer(kept(caller.limits(), store, name, file))
 }
 
 fn returned(store: &[u8], name: &[u8], buffer: &mut [u8]) -> Result<usize, u64> {
@@ -143,7 +146,7 @@ pub fn forget(store: &mut [u8], name: &[u8]) -> u64 {
 
 #[cfg(test)]
 mod tests {
-    use super::{forget, keep, return_to, MOST_LENGTH, PLACES, PLACE_LENGTH};
+    use super::{forget, keep, return_to, Caller, MOST_LENGTH, PLACES, PLACE_LENGTH};
     use reference::bath_file::pack_file;
     use reference::generator::Generator;
     use reference::{Refusal, Settings, Size};
@@ -162,7 +165,7 @@ mod tests {
         let answers = match which {
             0..=4 => {
                 let answer = code(reference::keep(&mut expected.0, name, file));
-                (keep(store, name, file), answer)
+                (keep(Caller::Bench, store, name, file), answer)
             }
             5 => {
                 let answer = code(reference::forget(&mut expected.0, name));

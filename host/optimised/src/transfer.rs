@@ -3,11 +3,12 @@
 use std::mem::MaybeUninit;
 use std::ops::AddAssign;
 
+use crate::caller::{Caller, Limits};
 use crate::particle::Particle;
 use crate::rounding::rounded;
-use crate::set::{check_length, check_size, last, pack, unpack, Room, MOST};
+use crate::set::{check_given, last, pack, unpack, Room, MOST};
 use crate::spline::{table, Place, Table};
-use crate::update::{check_lengths, is_slow, MOST_NODES};
+use crate::update::{is_slow, MOST_NODES};
 use crate::{answer, refused};
 
 /// Adds every particle to the grids. The particles are on the grid, and each grid is Nx·Ny long.
@@ -152,14 +153,9 @@ fn scatter_set(
     Ok(())
 }
 
-/// Whether the size and the lengths of records and grids are valid.
-fn check_entry(nx: usize, ny: usize, bytes: usize, grids: [usize; 3]) -> Result<(), u64> {
-    check_size(nx, ny)?;
-    check_length(bytes)?;
-    check_lengths(nx * ny, grids)
-}
-
+#[inline(always)]
 fn scattered(
+    limits: Limits,
     nx: usize,
     ny: usize,
     records: &[u8],
@@ -167,12 +163,15 @@ fn scattered(
     px: &mut [i64],
     py: &mut [i64],
 ) -> Result<(), u64> {
-    check_entry(nx, ny, records.len(), [mass.len(), px.len(), py.len()])?;
+    let grids = [mass.len(), px.len(), py.len()];
+    check_given(limits, nx, ny, records.len(), grids)?;
     scatter_set(nx, ny, records, mass, px, py)
 }
 
 /// Scatter.
+#[inline(always)]
 pub fn scatter(
+    caller: Caller,
     nx: usize,
     ny: usize,
     records: &[u8],
@@ -180,7 +179,7 @@ pub fn scatter(
     px: &mut [i64],
     py: &mut [i64],
 ) -> u64 {
-    answer(scattered(nx, ny, records, mass, px, py))
+    answer(scattered(caller.limits(), nx, ny, records, mass, px, py))
 }
 
 /// The cells of a grid, with 0 in each.
@@ -258,7 +257,9 @@ fn add_set(
     Ok(())
 }
 
+#[inline(always)]
 fn added(
+    limits: Limits,
     nx: usize,
     ny: usize,
     records: &[u8],
@@ -266,12 +267,15 @@ fn added(
     px: &mut [i64],
     py: &mut [i64],
 ) -> Result<(), u64> {
-    check_entry(nx, ny, records.len(), [mass.len(), px.len(), py.len()])?;
+    let grids = [mass.len(), px.len(), py.len()];
+    check_given(limits, nx, ny, records.len(), grids)?;
     add_set(nx, ny, records, mass, px, py)
 }
 
 /// Adding scatter.
+#[inline(always)]
 pub fn adding_scatter(
+    caller: Caller,
     nx: usize,
     ny: usize,
     records: &[u8],
@@ -279,7 +283,7 @@ pub fn adding_scatter(
     px: &mut [i64],
     py: &mut [i64],
 ) -> u64 {
-    answer(added(nx, ny, records, mass, px, py))
+    answer(added(caller.limits(), nx, ny, records, mass, px, py))
 }
 
 /// Gathers for a set of checked length from grids of checked lengths.
@@ -299,12 +303,28 @@ fn gather_set(nx: usize, ny: usize, records: &mut [u8], ux: &[i64], uy: &[i64]) 
     Ok(())
 }
 
-fn gathered(nx: usize, ny: usize, records: &mut [u8], ux: &[i64], uy: &[i64]) -> Result<(), u64> {
-    check_entry(nx, ny, records.len(), [ux.len(), ux.len(), uy.len()])?;
+#[inline(always)]
+fn gathered(
+    limits: Limits,
+    nx: usize,
+    ny: usize,
+    records: &mut [u8],
+    ux: &[i64],
+    uy: &[i64],
+) -> Result<(), u64> {
+    check_given(limits, nx, ny, records.len(), [ux.len(), uy.len()])?;
     gather_set(nx, ny, records, ux, uy)
 }
 
 /// Gather.
-pub fn gather(nx: usize, ny: usize, records: &mut [u8], ux: &[i64], uy: &[i64]) -> u64 {
-    answer(gathered(nx, ny, records, ux, uy))
+#[inline(always)]
+pub fn gather(
+    caller: Caller,
+    nx: usize,
+    ny: usize,
+    records: &mut [u8],
+    ux: &[i64],
+    uy: &[i64],
+) -> u64 {
+    answer(gathered(caller.limits(), nx, ny, records, ux, uy))
 }

@@ -3,6 +3,7 @@
 use std::hint::assert_unchecked;
 use std::mem::MaybeUninit;
 
+use crate::caller::{Caller, Limits};
 use crate::rounding::rounded;
 use crate::settings::{Settings, OPEN, STICKY};
 use crate::{answer, refused};
@@ -94,7 +95,8 @@ pub fn update_all(settings: &Settings, mass: &[u64], px: &mut [i64], py: &mut [i
 }
 
 /// Whether the buffers are as long as there are nodes.
-pub fn check_lengths(nodes: usize, lengths: [usize; 3]) -> Result<(), u64> {
+#[inline(always)]
+pub fn check_lengths<const N: usize>(nodes: usize, lengths: [usize; N]) -> Result<(), u64> {
     if lengths.into_iter().all(|length| length == nodes) {
         Ok(())
     } else {
@@ -152,11 +154,17 @@ fn update_checked(
 }
 
 #[inline(always)]
-fn updated(settings: &Settings, mass: &[u64], px: &mut [i64], py: &mut [i64]) -> Result<(), u64> {
-    settings.check_size()?;
-    check_lengths(settings.nodes(), [mass.len(), px.len(), py.len()])?;
+fn updated(
+    limits: Limits,
+    settings: &Settings,
+    mass: &[u64],
+    px: &mut [i64],
+    py: &mut [i64],
+) -> Result<(), u64> {
+    let &Settings { nx, ny, gx, gy, .. } = settings;
+    limits.check_size(nx, ny)?;
+    check_lengths(nx * ny, [mass.len(), px.len(), py.len()])?;
     settings.check_forces()?;
-    let &Settings { gx, gy, .. } = settings;
     match settings.drag {
         0 => update_checked(gx, gy, mass, px, py, |u| u)?,
         drag => update_checked(gx, gy, mass, px, py, |u| slowed(drag, u))?,
@@ -169,6 +177,7 @@ fn updated(settings: &Settings, mass: &[u64], px: &mut [i64], py: &mut [i64]) ->
 #[allow(clippy::too_many_arguments)]
 #[inline(always)]
 pub fn update(
+    caller: Caller,
     nx: usize,
     ny: usize,
     gx: i64,
@@ -181,7 +190,7 @@ pub fn update(
     py: &mut [i64],
 ) -> u64 {
     let settings = Settings::new(nx, ny, gx, gy, kind, width, drag);
-    answer(updated(&settings, mass, px, py))
+    answer(updated(caller.limits(), &settings, mass, px, py))
 }
 
 #[cfg(test)]

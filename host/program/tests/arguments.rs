@@ -174,6 +174,8 @@ fn refused_files() -> Vec<(u32, usize, Vec<u8>)> {
 fn words_of_file(number: u32) -> String {
     match number {
         1 => "the file has the wrong length".to_owned(),
+        2 => "nx or ny is not 4 to 48".to_owned(),
+        3 => "the count is above 4096".to_owned(),
         7 => "a position is off the grid".to_owned(),
         _ => words(number),
     }

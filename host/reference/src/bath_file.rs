@@ -1,12 +1,13 @@
 //! Bath files: an 11-byte header, then the records.
 
 use crate::bits::{pack, unpack, Field};
+use crate::caller::{Caller, Limits};
 use crate::edge::Edge;
 use crate::grid::{Settings, Size};
-use crate::limits::{HEADER_LENGTH, MAX_RECORDS, MAX_STEPS, RECORD_LENGTH};
+use crate::limits::{HEADER_LENGTH, MAX_STEPS, RECORD_LENGTH};
 use crate::particle::Particle;
-use crate::particle_set::{pack_records, walk};
-use crate::refusal::{require, Refusal, COUNT, LENGTH, SPARE, STEPS};
+use crate::particle_set::{check_count, pack_records, walk};
+use crate::refusal::{require, Refusal, LENGTH, SPARE, STEPS};
 
 /// The fields of the header in their order.
 pub const LAYOUT: [Field; 11] = [
@@ -61,10 +62,10 @@ impl Header {
     }
 
     /// Refuses 2, 10, 18, 19, 3, 17 in this order.
-    fn check(&self) -> Result<(), Refusal> {
-        self.settings.size.check()?;
+    fn check(&self, limits: Limits) -> Result<(), Refusal> {
+        self.settings.size.check(limits)?;
         self.settings.check_forcing()?;
-        require((0..=MAX_RECORDS).contains(&self.count), COUNT, 0)?;
+        check_count(limits, self.count)?;
         require((0..=MAX_STEPS).contains(&self.steps), STEPS, 0)
     }
 
@@ -108,22 +109,27 @@ pub(crate) fn told_length(header: &[u8; HEADER_LENGTH]) -> usize {
 /// Reads a file: the header's values. Refused: 1 shorter than 11; 2; 10; 18; 3; 17; 16 for either
 /// spare field; 1 length not 11 + 15·count; then the set.
 pub fn read_file(file: &[u8]) -> Result<Header, Refusal> {
+    read_file_for(Caller::Bench, file)
+}
+
+/// Reads a caller's file.
+pub fn read_file_for(caller: Caller, file: &[u8]) -> Result<Header, Refusal> {
     require(file.len() >= HEADER_LENGTH, LENGTH, 0)?;
     let [nx, ny, gx, gy, count, steps, first, kind, width, drag, last] =
         unpack(&LAYOUT, &file[..HEADER_LENGTH]);
     let header = Header::of([nx, ny, gx, gy, count, steps, kind, width, drag]);
-    header.check()?;
+    header.check(caller.limits())?;
     require([first, last] == [0, 0], SPARE, 0)?;
     require(file.len() == file_length(count), LENGTH, 0)?;
     walk(header.settings.size, file, HEADER_LENGTH)?;
     Ok(header)
 }
 
-/// Writes a header into the buffer, spare bits zero. Refused: 1 length not 11; 2; 10; 18; 19; 3; 17,
-/// and the buffer is as it was.
+/// Writes a header into the buffer, spare bits zero. Refused, by the bench's limits whoever calls: 1
+/// length not 11; 2; 10; 18; 19; 3; 17, and the buffer is as it was.
 pub fn write_header(header: &Header, buffer: &mut [u8]) -> Result<(), Refusal> {
     require(buffer.len() == HEADER_LENGTH, LENGTH, 0)?;
-    header.check()?;
+    header.check(Caller::Bench.limits())?;
     buffer.copy_from_slice(&header.pack(0));
     Ok(())
 }

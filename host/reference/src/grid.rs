@@ -1,15 +1,16 @@
 //! The grid: its size, its settings and its buffers.
 
+use crate::caller::Limits;
 use crate::edge::Edge;
-use crate::limits::{MAX_DRAG, MAX_GRAVITY, MAX_NODES, MIN_NODES, MIN_PLACE, SPACING};
+use crate::limits::{MAX_DRAG, MAX_GRAVITY, MIN_NODES, MIN_PLACE, SPACING};
 use crate::refusal::{require, within, Refusal, DRAG, GRAVITY, LENGTH, SIZE};
 
 /// Number of nodes along each axis.
 #[derive(Clone, Copy, Debug, PartialEq, Eq, Hash)]
 pub struct Size {
-    /// Nodes along the x axis, 4 to 48.
+    /// Nodes along the x axis, 4 to as many as the caller's limits say.
     pub nx: i128,
-    /// Nodes along the y axis, 4 to 48.
+    /// Nodes along the y axis, in the same range.
     pub ny: i128,
 }
 
@@ -20,8 +21,8 @@ impl Size {
     }
 
     /// Refuses 2.
-    pub fn check(&self) -> Result<(), Refusal> {
-        let accepted = |nodes: i128| (MIN_NODES..=MAX_NODES).contains(&nodes);
+    pub fn check(&self, limits: Limits) -> Result<(), Refusal> {
+        let accepted = |nodes: i128| (MIN_NODES..=limits.nodes).contains(&nodes);
         require(accepted(self.nx) && accepted(self.ny), SIZE, 0)
     }
 
@@ -107,10 +108,9 @@ pub struct GridBuffers<'a> {
 }
 
 impl GridBuffers<'_> {
-    /// Refuses 1 where a buffer is not Nx·Ny long.
-    pub(crate) fn check_lengths(&self, size: Size) -> Result<(), Refusal> {
-        let lengths = [self.mass.len(), self.x.len(), self.y.len()];
-        check_node_buffers(size, &lengths)
+    /// The lengths of the buffers.
+    pub(crate) fn lengths(&self) -> [usize; 3] {
+        [self.mass.len(), self.x.len(), self.y.len()]
     }
 }
 

@@ -4,8 +4,6 @@
 pub const SPACING: i128 = 64;
 /// Fewest nodes along an axis.
 pub const MIN_NODES: i128 = 4;
-/// Most nodes along an axis.
-pub const MAX_NODES: i128 = 48;
 /// Least coordinate on the grid.
 pub const MIN_PLACE: i128 = 32;
 /// Least offset from the nearest node.
@@ -17,8 +15,6 @@ pub const MAX_OFFSET: i128 = 31;
 pub const RECORD_LENGTH: usize = 15;
 /// Bytes of a bath file's header.
 pub const HEADER_LENGTH: usize = 11;
-/// Most records of a set.
-pub const MAX_RECORDS: i128 = 4096;
 /// Most bytes of a set.
 pub const MAX_SET_LENGTH: usize = 61_440;
 /// Most bytes of a bath file.

@@ -1,14 +1,33 @@
 //! Particle sets: records one after another, and their totals.
 
-use crate::grid::Size;
+use crate::caller::{Caller, Limits};
+use crate::grid::{check_node_buffers, Size};
 use crate::limits::{D, MAX_SET_LENGTH, MAX_TOTAL_MASS, RECORD_LENGTH};
 use crate::particle::{read_record, Particle};
-use crate::refusal::{require, Refusal, IDENTIFIER, LENGTH, PLACE, TOTAL_MASS};
+use crate::refusal::{require, Refusal, COUNT, IDENTIFIER, LENGTH, PLACE, TOTAL_MASS};
 
 /// Refuses 1 where the length is not a multiple of 15 or above 61,440.
-pub(crate) fn check_length(records: &[u8]) -> Result<(), Refusal> {
+fn check_length(records: &[u8]) -> Result<(), Refusal> {
     let whole = records.len().is_multiple_of(RECORD_LENGTH);
     require(whole && records.len() <= MAX_SET_LENGTH, LENGTH, 0)
+}
+
+/// Refuses 3.
+pub(crate) fn check_count(limits: Limits, count: i128) -> Result<(), Refusal> {
+    require((0..=limits.records).contains(&count), COUNT, 0)
+}
+
+/// Refuses, for a set given directly: 2; 1, also for node buffers of these lengths; 3.
+pub(crate) fn check_given(
+    limits: Limits,
+    size: Size,
+    records: &[u8],
+    buffers: &[usize],
+) -> Result<(), Refusal> {
+    size.check(limits)?;
+    check_length(records)?;
+    check_node_buffers(size, buffers)?;
+    check_count(limits, (records.len() / RECORD_LENGTH) as i128)
 }
 
 /// The walk over the records from byte `start` on: the particles, or 4, 5, 6, 7, 8, 9 for the
@@ -32,8 +51,12 @@ pub(crate) fn walk(size: Size, bytes: &[u8], start: usize) -> Result<Vec<Particl
 
 /// The particles of a set. Refused as check a set is.
 pub fn particles(size: Size, records: &[u8]) -> Result<Vec<Particle>, Refusal> {
-    size.check()?;
-    check_length(records)?;
+    particles_for(Caller::Bench, size, records)
+}
+
+/// The particles of a caller's set.
+fn particles_for(caller: Caller, size: Size, records: &[u8]) -> Result<Vec<Particle>, Refusal> {
+    check_given(caller.limits(), size, records, &[])?;
     walk(size, records, 0)
 }
 
@@ -42,9 +65,14 @@ pub fn pack_records(particles: &[Particle]) -> Vec<u8> {
     particles.iter().flat_map(Particle::pack).collect()
 }
 
-/// Checks a set: the number of its records. Refused: 2, 1, then for each record 4 to 9.
+/// Checks a set: the number of its records. Refused: 2, 1, 3, then for each record 4 to 9.
 pub fn check_set(size: Size, records: &[u8]) -> Result<usize, Refusal> {
-    Ok(particles(size, records)?.len())
+    check_set_for(Caller::Bench, size, records)
+}
+
+/// Checks a caller's set.
+pub fn check_set_for(caller: Caller, size: Size, records: &[u8]) -> Result<usize, Refusal> {
+    Ok(particles_for(caller, size, records)?.len())
 }
 
 /// The sums over a set.
@@ -98,7 +126,12 @@ impl Totals {
 
 /// Totals of a set. Refused as check a set is.
 pub fn totals(size: Size, records: &[u8]) -> Result<Totals, Refusal> {
-    Ok(Totals::of(&particles(size, records)?))
+    totals_for(Caller::Bench, size, records)
+}
+
+/// Totals of a caller's set.
+pub fn totals_for(caller: Caller, size: Size, records: &[u8]) -> Result<Totals, Refusal> {
+    Ok(Totals::of(&particles_for(caller, size, records)?))
 }
 
 #[cfg(test)]

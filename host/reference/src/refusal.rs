@@ -5,7 +5,7 @@
 pub const LENGTH: u32 = 1;
 /// Nx or Ny out of range.
 pub const SIZE: u32 = 2;
-/// The header's count above 4096.
+/// A count of records above the caller's limit.
 pub const COUNT: u32 = 3;
 /// A particle's mass.
 pub const MASS: u32 = 4;

@@ -1,11 +1,12 @@
 //! Baths kept under a name. A store is four places one after the other, each 8 bytes of a name and
 //! 61,451 of a bath file. A place is free where all of its bytes are zero; else its name is 1 to 8
-//! letters A to Z at the front of 8 bytes, its file is one that read a file accepts, and what follows
-//! either is zero. No name stands in two places.
+//! letters A to Z at the front of 8 bytes, its file is one that read a file accepts for the bench, and
+//! what follows either is zero. No name stands in two places.
 
 use std::collections::BTreeMap;
 
-use crate::bath_file::{read_file, told_length};
+use crate::bath_file::{read_file, read_file_for, told_length};
+use crate::caller::Caller;
 use crate::limits::{MAX_FILE_LENGTH, NAME_LENGTH};
 use crate::limits::{STORE_LENGTH, STORE_PLACES, STORE_PLACE_LENGTH};
 use crate::refusal::{require, Refusal, FULL_STORE, LENGTH, NAME, NOT_HELD};
@@ -89,9 +90,14 @@ fn bath(place: &[u8]) -> Option<(Vec<u8>, Vec<u8>)> {
 /// Refused: 1 where the store is not of its length and form; 22; as read a file refuses; 24 where the
 /// name is not held and no place is free.
 pub fn keep(store: &mut [u8], name: &[u8], file: &[u8]) -> Result<(), Refusal> {
+    keep_for(Caller::Bench, store, name, file)
+}
+
+/// Keeps a caller's bath.
+pub fn keep_for(caller: Caller, store: &mut [u8], name: &[u8], file: &[u8]) -> Result<(), Refusal> {
     let mut held = Store::read(store)?;
     require(is_name(name), NAME, 0)?;
-    read_file(file)?;
+    read_file_for(caller, file)?;
     let place = held.place_for(name).ok_or(Refusal::at(FULL_STORE, 0))?;
     held.baths.insert(name.to_vec(), (place, file.to_vec()));
     store.copy_from_slice(&held.write());

@@ -3,13 +3,14 @@
 
 use std::ops::Range;
 
+use crate::caller::Caller;
 use crate::grid::{check_node_buffers, GridBuffers, Settings, Size};
 use crate::limits::{
     D, DRAG_UNIT, MAX_B, MAX_NODE_MASS, MAX_NODE_VELOCITY, MAX_PRESENT_MOMENTUM, MAX_VELOCITY,
     NODE_VELOCITY_UNIT, SPACING, WEIGHT_TOTAL,
 };
 use crate::particle::Particle;
-use crate::particle_set::{check_length, pack_records, walk};
+use crate::particle_set::{check_given, pack_records, walk};
 use crate::refusal::{
     require, within, Refusal, ADDED_MASS, NEW_AFFINE, NEW_PLACE, NEW_VELOCITY, NODE_MASS,
     NODE_VELOCITY, PRESENT_NODE,
@@ -107,16 +108,15 @@ fn fit<T: TryFrom<i128>>(number: i128) -> T {
         .expect("within 64 bits by the limits")
 }
 
-/// The set's nodes for this grid. Refused: 2; 1, also for the grid buffers; then the set.
+/// The set's nodes for this grid. Refused: 2; 1, also for the grid buffers; 3; then the set.
 fn set_nodes(
+    caller: Caller,
     sums: Sums,
     size: Size,
     records: &[u8],
     grid: &GridBuffers,
 ) -> Result<Vec<Node>, Refusal> {
-    size.check()?;
-    check_length(records)?;
-    grid.check_lengths(size)?;
+    check_given(caller.limits(), size, records, &grid.lengths())?;
     let particles = walk(size, records, 0)?;
     Ok(node_sums(sums, size, &particles))
 }
@@ -131,7 +131,7 @@ fn put_nodes(nodes: &[Node], grid: &mut GridBuffers) {
 }
 
 /// Scatter: the grid then holds node masses and momenta of the set, whatever it held.
-/// Refused: 2; 1, also for the grid buffers; then the set.
+/// Refused: 2; 1, also for the grid buffers; 3; then the set.
 pub fn scatter(size: Size, records: &[u8], grid: &mut GridBuffers) -> Result<(), Refusal> {
     scatter_by(Sums::Literal, size, records, grid)
 }
@@ -143,7 +143,18 @@ pub fn scatter_by(
     records: &[u8],
     grid: &mut GridBuffers,
 ) -> Result<(), Refusal> {
-    let nodes = set_nodes(sums, size, records, grid)?;
+    scatter_for(Caller::Bench, sums, size, records, grid)
+}
+
+/// A caller's scatter.
+pub fn scatter_for(
+    caller: Caller,
+    sums: Sums,
+    size: Size,
+    records: &[u8],
+    grid: &mut GridBuffers,
+) -> Result<(), Refusal> {
+    let nodes = set_nodes(caller, sums, size, records, grid)?;
     put_nodes(&nodes, grid);
     Ok(())
 }
@@ -168,7 +179,7 @@ fn added_node(grid: &GridBuffers, index: usize, share: Node) -> Result<Node, Ref
 }
 
 /// Adding scatter: the set's node masses and momenta are added to those that the grid holds.
-/// Refused: 2; 1, also for the grid buffers; the set; then for each node 20, 21.
+/// Refused: 2; 1, also for the grid buffers; 3; the set; then for each node 20, 21.
 pub fn adding_scatter(size: Size, records: &[u8], grid: &mut GridBuffers) -> Result<(), Refusal> {
     adding_scatter_by(Sums::Literal, size, records, grid)
 }
@@ -180,7 +191,18 @@ pub fn adding_scatter_by(
     records: &[u8],
     grid: &mut GridBuffers,
 ) -> Result<(), Refusal> {
-    let shares = set_nodes(sums, size, records, grid)?;
+    adding_scatter_for(Caller::Bench, sums, size, records, grid)
+}
+
+/// A caller's adding scatter.
+pub fn adding_scatter_for(
+    caller: Caller,
+    sums: Sums,
+    size: Size,
+    records: &[u8],
+    grid: &mut GridBuffers,
+) -> Result<(), Refusal> {
+    let shares = set_nodes(caller, sums, size, records, grid)?;
     let nodes = shares
         .into_iter()
         .enumerate()
@@ -224,8 +246,17 @@ fn updated_node(settings: Settings, grid: &GridBuffers, node: usize) -> Result<[
 /// Update: node velocities take the place of node momenta; masses stay.
 /// Refused: 2; 1 for the grid buffers; 10; 18; 19; then for each node 11, 12.
 pub fn update(settings: Settings, grid: &mut GridBuffers) -> Result<(), Refusal> {
-    settings.size.check()?;
-    grid.check_lengths(settings.size)?;
+    update_for(Caller::Bench, settings, grid)
+}
+
+/// A caller's update.
+pub fn update_for(
+    caller: Caller,
+    settings: Settings,
+    grid: &mut GridBuffers,
+) -> Result<(), Refusal> {
+    settings.size.check(caller.limits())?;
+    check_node_buffers(settings.size, &grid.lengths())?;
     settings.check_forcing()?;
     let velocities = (0..settings.size.nodes())
         .map(|node| updated_node(settings, grid, node))
@@ -294,7 +325,7 @@ fn check_gathered(size: Size, particle: &Particle, place: usize) -> Result<(), R
 }
 
 /// Gather: the records then hold the moved particles. Refused: 2; 1, also for the velocity
-/// buffers; the set; for each node 12; for each record 13, 14, 15.
+/// buffers; 3; the set; for each node 12; for each record 13, 14, 15.
 pub fn gather(size: Size, records: &mut [u8], x: &[i64], y: &[i64]) -> Result<(), Refusal> {
     gather_by(Sums::Literal, size, records, x, y)
 }
@@ -307,9 +338,19 @@ pub fn gather_by(
     x: &[i64],
     y: &[i64],
 ) -> Result<(), Refusal> {
-    size.check()?;
-    check_length(records)?;
-    check_node_buffers(size, &[x.len(), y.len()])?;
+    gather_for(Caller::Bench, sums, size, records, x, y)
+}
+
+/// A caller's gather.
+pub fn gather_for(
+    caller: Caller,
+    sums: Sums,
+    size: Size,
+    records: &mut [u8],
+    x: &[i64],
+    y: &[i64],
+) -> Result<(), Refusal> {
+    check_given(caller.limits(), size, records, &[x.len(), y.len()])?;
     let particles = walk(size, records, 0)?;
     let field = VelocityField { size, x, y };
     field.check()?;

@@ -4,9 +4,10 @@
 //!
 //! `NAME | OPERATION | BUFFERS | ANSWER | BUFFERS AFTER`
 //!
-//! - NAME is `operation/case`; a call of a list is `list/case/number`, and gets the records or the store
+//! - NAME is `operation/case`, for the lesson page `page-operation/case`; a call of a list is `list/case/number`, and gets the records or the store
 //!   that the call before left.
-//! - OPERATION is the operation and the numbers that it is given, each after its name.
+//! - OPERATION is the operation, behind `page-` where the lesson page calls it, and the numbers that it is
+//!   given, each after its name.
 //! - BUFFERS are those that the operation is given, each after its name, and BUFFERS AFTER those of
 //!   them that it changed, or `unchanged`.
 //!   - `bytes` and `header` are hexadecimal, a part of equal bytes as `XX*COUNT`.
@@ -34,9 +35,10 @@ mod text;
 
 use reference::report::program;
 use reference::{
-    adding_scatter, check_set, forget, gather, keep, read_file, read_record, return_to, run,
-    scatter, step, totals, update, weights, write_header, write_record,
+    adding_scatter_for, check_set_for, gather_for, keep_for, read_file_for, run_for, scatter_for,
+    step_for, totals_for, update_for, Caller, Sums,
 };
+use reference::{forget, read_record, return_to, weights, write_header, write_record};
 use reference::{Grid, Header, Particle, Refusal, RunAnswer, Settings, Size, Totals};
 
 pub use cases::cases;
@@ -135,6 +137,8 @@ impl Answer {
 pub struct Case {
     /// `operation/case`, different for each case.
     pub name: String,
+    /// Who calls; the bench where the operation knows no caller.
+    pub caller: Caller,
     /// The operation and its numbers.
     pub operation: Operation,
     /// The buffers before the call.
@@ -149,40 +153,48 @@ pub struct Case {
     pub stated: Option<Refusal>,
 }
 
-/// The answer of the reference; the buffers are left as the operation leaves them.
-pub fn perform(operation: Operation, buffers: &mut Buffers) -> Answer {
+/// The answer of the reference to a caller; the buffers are left as the operation leaves them.
+pub fn perform(caller: Caller, operation: Operation, buffers: &mut Buffers) -> Answer {
     let Buffers {
         bytes,
         grid,
         store,
         name,
     } = buffers;
+    let sums = Sums::Literal;
     let answer = match operation {
         Operation::ReadRecord => read_record(bytes).map(Answer::Particle),
         Operation::WriteRecord(particle) => write_record(&particle, bytes).map(|()| Answer::Done),
-        Operation::CheckSet(size) => check_set(size, bytes).map(Answer::Count),
-        Operation::Totals(size) => totals(size, bytes).map(Answer::Totals),
+        Operation::CheckSet(size) => check_set_for(caller, size, bytes).map(Answer::Count),
+        Operation::Totals(size) => totals_for(caller, size, bytes).map(Answer::Totals),
         Operation::Weights(q) => weights(q).map(Answer::Weights),
         Operation::Scatter(size) => {
-            scatter(size, bytes, &mut grid.buffers()).map(|()| Answer::Done)
+            scatter_for(caller, sums, size, bytes, &mut grid.buffers()).map(|()| Answer::Done)
         }
         Operation::AddingScatter(size) => {
-            adding_scatter(size, bytes, &mut grid.buffers()).map(|()| Answer::Done)
+            adding_scatter_for(caller, sums, size, bytes, &mut grid.buffers())
+                .map(|()| Answer::Done)
         }
-        Operation::Update(settings) => update(settings, &mut grid.buffers()).map(|()| Answer::Done),
-        Operation::Gather(size) => gather(size, bytes, &grid.x, &grid.y).map(|()| Answer::Done),
+        Operation::Update(settings) => {
+            update_for(caller, settings, &mut grid.buffers()).map(|()| Answer::Done)
+        }
+        Operation::Gather(size) => {
+            gather_for(caller, sums, size, bytes, &grid.x, &grid.y).map(|()| Answer::Done)
+        }
         Operation::Step(settings) => {
-            step(settings, bytes, &mut grid.buffers()).map(|()| Answer::Done)
+            step_for(caller, sums, settings, bytes, &mut grid.buffers()).map(|()| Answer::Done)
         }
-        Operation::Run(settings, steps) => Ok(Answer::Ran(run(
+        Operation::Run(settings, steps) => Ok(Answer::Ran(run_for(
+            caller,
+            sums,
             settings,
             steps,
             bytes,
             &mut grid.buffers(),
         ))),
-        Operation::ReadFile => read_file(bytes).map(Answer::Header),
+        Operation::ReadFile => read_file_for(caller, bytes).map(Answer::Header),
         Operation::WriteHeader(header) => write_header(&header, bytes).map(|()| Answer::Done),
-        Operation::Keep => keep(store, name, bytes).map(|()| Answer::Done),
+        Operation::Keep => keep_for(caller, store, name, bytes).map(|()| Answer::Done),
         Operation::Return => return_to(store, name, bytes).map(Answer::Length),
         Operation::Forget => forget(store, name).map(|()| Answer::Done),
         Operation::Program => Ok(Answer::Text(program(bytes))),

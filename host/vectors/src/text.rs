@@ -4,7 +4,7 @@ use std::fmt::{self, Display, Formatter};
 
 use reference::limits::{HEADER_LENGTH, NAME_LENGTH, RECORD_LENGTH};
 use reference::limits::{STORE_LENGTH, STORE_PLACE_LENGTH};
-use reference::{Header, Particle, RunAnswer, Settings, Size};
+use reference::{Caller, Header, Particle, RunAnswer, Settings, Size};
 
 use crate::{Answer, Buffers, Case, Operation};
 
@@ -16,7 +16,19 @@ impl Display for Case {
         let after = buffers_text(&changed, "unchanged");
         let before = buffers_text(&before, "none");
         let (name, operation, answer) = (&self.name, &self.operation, &self.answer);
-        write!(f, "{name} | {operation} | {before} | {answer} | {after}")
+        let page = prefix(self.caller);
+        write!(
+            f,
+            "{name} | {page}{operation} | {before} | {answer} | {after}"
+        )
+    }
+}
+
+/// What stands before the name of a caller's operation.
+pub fn prefix(caller: Caller) -> &'static str {
+    match caller {
+        Caller::Bench => "",
+        Caller::Page => "page-",
     }
 }
 

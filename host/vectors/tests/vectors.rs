@@ -2,11 +2,14 @@
 
 use std::collections::{BTreeMap, BTreeSet};
 
-use reference::limits::RECORD_LENGTH;
-use vectors::{cases, Answer, Case, Operation};
+use reference::bath_file::LAYOUT;
+use reference::bits::unpack;
+use reference::limits::{HEADER_LENGTH, RECORD_LENGTH};
+use reference::{Caller, Size};
+use vectors::{cases, perform, Answer, Case, Operation};
 
-/// The refusals that documents 01 and 02 list for each operation.
-const LISTED: [(&str, &[u32]); 16] = [
+/// The refusals that documents 01 and 02 list for each operation, and for the lesson page.
+const LISTED: [(&str, &[u32]); 26] = [
     ("read-record", &[1, 4, 5, 6]),
     ("write-record", &[1, 4, 5, 6, 7]),
     ("check-set", &[1, 2, 4, 5, 6, 7, 8, 9]),
@@ -23,6 +26,28 @@ const LISTED: [(&str, &[u32]); 16] = [
     ("keep", &[1, 2, 3, 4, 5, 6, 7, 8, 9, 10, 16, 17, 18, 22, 24]),
     ("return", &[1, 22, 23]),
     ("forget", &[1, 22, 23]),
+    ("page-check-set", &[1, 2, 3, 4, 5, 6, 7, 8, 9]),
+    ("page-totals", &[1, 2, 3, 4, 5, 6, 7, 8, 9]),
+    ("page-scatter", &[1, 2, 3, 4, 5, 6, 7, 8, 9]),
+    ("page-adding-scatter", &[1, 2, 3, 4, 5, 6, 7, 8, 9, 20, 21]),
+    ("page-update", &[1, 2, 10, 11, 12, 18, 19]),
+    ("page-gather", &[1, 2, 3, 4, 5, 6, 7, 8, 9, 12, 13, 14, 15]),
+    (
+        "page-step",
+        &[1, 2, 3, 4, 5, 6, 7, 8, 9, 10, 13, 14, 15, 18, 19],
+    ),
+    (
+        "page-run",
+        &[1, 2, 3, 4, 5, 6, 7, 8, 9, 10, 13, 14, 15, 17, 18, 19],
+    ),
+    (
+        "page-read-file",
+        &[1, 2, 3, 4, 5, 6, 7, 8, 9, 10, 16, 17, 18],
+    ),
+    (
+        "page-keep",
+        &[1, 2, 3, 4, 5, 6, 7, 8, 9, 10, 16, 17, 18, 22, 24],
+    ),
 ];
 
 fn group(case: &Case) -> &str {
@@ -138,6 +163,78 @@ fn calls_of_a_list_follow_each_other() {
 }
 
 #[test]
+fn names_tell_the_caller() {
+    for case in cases().iter().filter(|case| group(case) != "list") {
+        let page = case.name.starts_with("page-");
+        assert_eq!(page, case.caller == Caller::Page, "{}", case.name);
+    }
+}
+
+/// Beside each case of the bench that says so stands the same call of the page, with another answer.
+#[test]
+fn the_same_calls_of_page_and_bench() {
+    let cases = cases();
+    let named: BTreeMap<&str, &Case> = cases.iter().map(|case| (&case.name[..], case)).collect();
+    let mut operations = BTreeSet::new();
+    for bench in &cases {
+        let Some((operation, name)) = bench.name.split_once("/bench-") else {
+            continue;
+        };
+        let page = named[&format!("page-{operation}/{name}")[..]];
+        assert!((bench.operation, &bench.before) == (page.operation, &page.before));
+        let refusal = page.answer.refusal().expect("a refusal");
+        assert!([2, 3].contains(&refusal.number) && refusal.place == 0);
+        assert_ne!(Some(refusal), bench.answer.refusal());
+        operations.insert((operation, refusal.number));
+    }
+    // Update has no set.
+    assert_eq!(operations.len(), 19);
+}
+
+/// Nx, Ny and the number of records in what a call with a caller is given.
+fn told(case: &Case) -> Option<[i128; 3]> {
+    let bytes = &case.before.bytes;
+    let Size { nx, ny } = match case.operation {
+        Operation::CheckSet(size)
+        | Operation::Totals(size)
+        | Operation::Scatter(size)
+        | Operation::AddingScatter(size)
+        | Operation::Gather(size) => size,
+        Operation::Update(settings) | Operation::Step(settings) | Operation::Run(settings, _) => {
+            settings.size
+        }
+        Operation::ReadFile | Operation::Keep => {
+            let [nx, ny, _, _, count, ..] = unpack(&LAYOUT, bytes.get(..HEADER_LENGTH)?);
+            return Some([nx, ny, count]);
+        }
+        _ => return None,
+    };
+    Some([nx, ny, (bytes.len() / RECORD_LENGTH) as i128])
+}
+
+/// The page's outcome of a bench's case within the page's limits is the same.
+#[test]
+fn within_the_limits_of_the_page() {
+    let mut seen: BTreeMap<String, usize> = BTreeMap::new();
+    for case in cases() {
+        let within = |[nx, ny, count]: [i128; 3]| nx <= 16 && ny <= 16 && count <= 512;
+        if case.caller == Caller::Page || !told(&case).is_some_and(within) {
+            continue;
+        }
+        let mut after = case.before.clone();
+        let answer = perform(Caller::Page, case.operation, &mut after);
+        assert!(
+            (&answer, &after) == (&case.answer, &case.after),
+            "{}",
+            case.name
+        );
+        *seen.entry(group(&case).to_string()).or_default() += 1;
+    }
+    assert_eq!(seen.len(), 11);
+    assert!(seen.values().all(|&count| count > 20), "{seen:?}");
+}
+
+#[test]
 fn stopped_runs() {
     let cases = cases();
     let completed = |name: &str| {
@@ -152,6 +249,7 @@ fn stopped_runs() {
     assert_eq!(completed("run/stopped-at-its-6th-step-by-14"), 5);
     assert_eq!(completed("run/stopped-at-its-46th-step-by-15"), 45);
     assert_eq!(completed("run/stopped-at-its-64th-step-by-13"), 63);
+    assert_eq!(completed("page-run/stopped-at-its-4th-step-by-13"), 3);
     assert_eq!(completed("run/80-steps-open"), 54);
     assert_eq!(completed("run/marks-stopped-by-13"), 56);
     assert_eq!(completed("run/marks-stopped-by-15"), 45);

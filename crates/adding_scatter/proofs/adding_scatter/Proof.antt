@@ -19,7 +19,7 @@ use Rattle.adding_scatter.proofs.adding_scatter.Tie as tie
 abbrev Set : tie.After-check-scatter → Type 0
 Set r =
     let a = r .before .before .before .args in
-    (ps : List Particle) × (scatterAnswer (a .nx) (a .ny) (a .records .now) (length (a .mass .now)) (length (a .px .now)) (length (a .py .now)) ≡ result ps)
+    (ps : List Particle) × (scatterAnswer (a .caller) (a .nx) (a .ny) (a .records .now) (length (a .mass .now)) (length (a .px .now)) (length (a .py .now)) ≡ result ps)
 
 set : (t : tie.After-enum-told) → Set (t .before .before)
 set t =
@@ -27,7 +27,7 @@ set t =
     (a .0, a .1)
 
 ready : (t : tie.After-enum-told) → let a = t .before .before .before .before .before .args in ScatterSet (a .nx) (a .ny) (a .records .now) (a .mass .now) (a .px .now) (a .py .now)
-ready t = scatter-set _ _ _ _ _ _ (set t .1)
+ready t = scatter-set _ _ _ _ _ _ _ (set t .1)
 
 check-scatter-requires : tie.Need-check-scatter-requires
 check-scatter-requires c κs = search needs
@@ -56,13 +56,13 @@ same-length-3 c = search needs
 returns : tie.Need-returns
 returns c =
     let added = c .before .before .before .before in
-    with-set _ _ _ _ _ _ (set (added .before .before .before .before .before) .1) (added .add-small .ensures)
+    with-set _ _ _ _ _ _ _ (set (added .before .before .before .before .before) .1) (added .add-small .ensures)
 
 add-large-requires : tie.Need-add-large-requires
 add-large-requires c κs = ready (c .before .before .before .before)
 
 returns-2 : tie.Need-returns-2
-returns-2 c = bad-entry _ _ _ _ _ _ (kept-refusal _ length (sym (c .before .before .before .check-scatter .ensures) ∙ ap toldChecked (c .before .refusal .given .1)))
+returns-2 c = bad-entry _ _ _ _ _ _ _ (kept-refusal _ length (sym (c .before .before .before .check-scatter .ensures) ∙ ap toldChecked (c .before .refusal .given .1)))
 
 same-length-4 : tie.Need-same-length-4
 same-length-4 c = search needs
@@ -76,7 +76,7 @@ same-length-6 c = search needs
 returns-3 : tie.Need-returns-3
 returns-3 c =
     let added = c .before .before .before .before in
-    with-set _ _ _ _ _ _ (set (added .before .before .before .before .before) .1) (added .add-large .ensures)
+    with-set _ _ _ _ _ _ _ (set (added .before .before .before .before .before) .1) (added .add-large .ensures)
 
 pub adding-scatter-spec : {M : Type 1} → statement M
 adding-scatter-spec =

@@ -9,16 +9,19 @@ use Rattle.cases.proofs.serve.Statement.{statement}
 use Rattle.cases.proofs.serve.Tie as tie
 
 abbrev Inv-loop : tie.InvT-loop
-Inv-loop bytes₀ store₀ end₀ lent₀ left₀ bytes store end lent left = (length bytes ≡ length bytes₀) × (length store ≡ length store₀)
+Inv-loop bytes₀ store₀ end₀ lent₀ caller₀ left₀ bytes store end lent caller left = (length bytes ≡ length bytes₀) × (length store ≡ length store₀)
 
 abbrev μ-loop : tie.MeasureT-loop
-μ-loop bytes₀ store₀ end₀ lent₀ left₀ bytes store end lent left = left
+μ-loop bytes₀ store₀ end₀ lent₀ caller₀ left₀ bytes store end lent caller left = left
 
 loop-holds : tie.Need-loop-holds Inv-loop μ-loop
 loop-holds c = search needs
 
 read-word-requires : tie.Need-read-word-requires Inv-loop μ-loop
 read-word-requires c κs = search needs
+
+called-by-requires : tie.Need-called-by-requires Inv-loop μ-loop
+called-by-requires c κs = search needs
 
 same-length : tie.Need-same-length Inv-loop μ-loop
 same-length c = search needs
@@ -68,6 +71,7 @@ serve-spec =
     same-length
     same-length-2
     returns
+    called-by-requires
     read-requires
     read-requires-2
     call-requires

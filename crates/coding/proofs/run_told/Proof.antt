@@ -36,7 +36,7 @@ code-requires c κs =
     let h = r .run .ensures in
     let u = rw (numbered r .of-numbers .ensures, toZ-ofZ (s .fits .gx), toZ-ofZ (s .fits .gy)) at h in
     place-of (c .before .count .given .0 .1 .0) (ap (λ r. r .stop) (u .answer)) (ap (λ r. toldRan r .stop) (c .before .count .given .1))
-    (places.run (settingsWith (s .args .nx) (s .args .ny) (s .args .gx) (s .args .gy) (s .args .kind) (s .args .width) (s .args .drag)) (s .args .steps) (now (s .args .records))
+    (places.run (s .args .caller) (settingsWith (s .args .nx) (s .args .ny) (s .args .gx) (s .args .gy) (s .args .kind) (s .args .width) (s .args .drag)) (s .args .steps) (now (s .args .records))
     (gridsOf (now (s .args .mass)) (now (s .args .px)) (now (s .args .py))))
 
 enum-known-count-2 : tie.Need-enum-known-count-2

@@ -4,6 +4,7 @@ use native.Mathlib.Omega.{arith}
 use mathlib.Core.Path.{sym, ap, _∙_}
 use denote.Ref.{now}
 use Rattle.refusal.specs.Refused.{result}
+use Rattle.limits.specs.declared.Caller.the-variants.{Bench}
 use Rattle.particles.specs.Set.{toldChecked}
 use Rattle.particles.proofs.Checks.{size-limits}
 use Rattle.bath_file.proofs.Checks.{Valid, valid}
@@ -11,8 +12,8 @@ use Rattle.bath_file.proofs.Answers.{wrong-records, records-accepted, records-r
 use Rattle.file_reader.proofs.check_records.Statement.{statement}
 use Rattle.file_reader.proofs.check_records.Tie as tie
 
-accepted : (c : tie.Start) → Valid (c .args .h)
-accepted c = valid (c .args .h) (result (c .args .h)) (c .pre) .0
+accepted : (c : tie.Start) → Valid Bench (c .args .h)
+accepted c = valid Bench (c .args .h) (result (c .args .h)) (c .pre) .0
 
 abbrev start : tie.Else1 → tie.Start
 start c = c .before .before
@@ -30,7 +31,7 @@ returns : tie.Need-returns
 returns c = let s = c .before .before in sym (wrong-records (s .args .h) (now (s .args .bytes)) (c .if1 .taken))
 
 check-requires : tie.Need-check-requires
-check-requires c κs = let v = accepted (start c) in (size-limits _ _ (v .size), v .count-to, omega arith)
+check-requires c κs = let v = accepted (start c) in (size-limits Bench _ _ (v .size), v .count-to, omega arith)
 
 enum-told : tie.Need-enum-told
 enum-told c = search needs

@@ -3,9 +3,10 @@ use borrow.Author.Needs.{needs}
 use mathlib.Core.Path.{_≡_, sym, ap, _∙_}
 use denote.Ref.{now}
 use Rattle.refusal.specs.Refused.{Answer, andThen}
+use Rattle.limits.specs.declared.Caller.the-variants.{Bench}
 use Rattle.bath_file.specs.declared.Header.{Header}
 use Rattle.bath_file.specs.File.{recordsAnswer, fileAnswer, toldRead}
-use Rattle.bath_file.proofs.Checks.{passes}
+use Rattle.bath_file.proofs.Checks.{bench-valid, passes}
 use Rattle.bath_file.proofs.Answers.{header-held}
 use Rattle.file_reader.proofs.read_file.Statement.{statement}
 use Rattle.file_reader.proofs.read_file.Tie as tie
@@ -14,7 +15,7 @@ abbrev start : tie.After-read-header → tie.Start
 start c = c .before .before
 
 -- what the header's answer comes to
-after : (c : tie.After-read-header) {a : Answer Header} → toldRead (c .read-header .result) ≡ a → andThen a (λ h. recordsAnswer h (now (start c .args .bytes))) ≡ fileAnswer (now (start c .args .bytes))
+after : (c : tie.After-read-header) {a : Answer Header} → toldRead (c .read-header .result) ≡ a → andThen a (λ h. recordsAnswer h (now (start c .args .bytes))) ≡ fileAnswer (start c .args .caller) (now (start c .args .bytes))
 after c e = ap (λ a. andThen a (λ h. recordsAnswer h (now (start c .args .bytes)))) (sym e ∙ c .read-header .ensures)
 
 read-header-requires : tie.Need-read-header-requires
@@ -29,7 +30,8 @@ enum-known-h c = search needs
 check-records-requires : tie.Need-check-records-requires
 check-records-requires c κs =
     let r = c .before .before .before in
-    passes _ _ (header-held (now (start r .args .bytes)) (sym (r .read-header .ensures) ∙ ap toldRead (c .before .h .given .1)) .valid)
+    let a = start r .args in
+    passes Bench _ _ (bench-valid (a .caller) _ (header-held (a .caller) (now (a .bytes)) (sym (r .read-header .ensures) ∙ ap toldRead (c .before .h .given .1)) .valid))
 
 returns : tie.Need-returns
 returns c = after (c .before .before .before) (ap toldRead (c .before .refusal .given .1))

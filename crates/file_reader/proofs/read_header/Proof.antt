@@ -35,11 +35,11 @@ abbrev accepted : tie.After-spare-is-zero → tie.After-check-values
 accepted c = c .before .before .before .before
 
 -- what the values' checks answer of the header that the first bytes hold
-values : (c : tie.After-check-values) → let h = headerIn (take headerLength (bytes (cut c))) in checkedHeader h (result h) ≡ toldRead (c .check-values .result)
-values c = ap (λ h. checkedHeader h (result h)) (sym (c .before .unpack .ensures)) ∙ sym (c .check-values .ensures)
+values : (c : tie.After-check-values) → let h = headerIn (take headerLength (bytes (cut c))) in checkedHeader (start (cut c) .args .caller) h (result h) ≡ toldRead (c .check-values .result)
+values c = ap (λ h. checkedHeader (start (cut c) .args .caller) h (result h)) (sym (c .before .unpack .ensures)) ∙ sym (c .check-values .ensures)
 
 returns : tie.Need-returns
-returns c = sym (too-short (now (c .before .before .args .bytes)) (c .if1 .taken))
+returns c = sym (too-short _ (now (c .before .before .args .bytes)) (c .if1 .taken))
 
 slice-aggregate-header : tie.Need-slice-aggregate-header
 slice-aggregate-header c = sym (long (c .before))
@@ -63,18 +63,18 @@ returns-2 : tie.Need-returns-2
 returns-2 c =
     let s = c .before in
     let v = accepted s in
-    sym (header-spare (bytes (cut v)) (cut v .if1 .left) (values v ∙ ap toldRead (s .before .before .h .given .1)) (sym (s .spare-is-zero .ensures) ∙ not-true _ (c .if2 .taken)))
+    sym (header-spare _ (bytes (cut v)) (cut v .if1 .left) (values v ∙ ap toldRead (s .before .before .h .given .1)) (sym (s .spare-is-zero .ensures) ∙ not-true _ (c .if2 .taken)))
 
 returns-3 : tie.Need-returns-3
 returns-3 c =
     let v = refused c in
-    sym (header-refused (bytes (cut v)) (cut v .if1 .left) (values v ∙ ap toldRead (c .before .refusal .given .1)))
+    sym (header-refused _ (bytes (cut v)) (cut v .if1 .left) (values v ∙ ap toldRead (c .before .refusal .given .1)))
 
 returns-4 : tie.Need-returns-4
 returns-4 c =
     let s = c .before in
     let v = accepted s in
-    sym (header-accepted (bytes (cut v)) (cut v .if1 .left) (values v ∙ ap toldRead (s .before .before .h .given .1)) (sym (s .spare-is-zero .ensures) ∙ not-false _ (c .if2 .left)))
+    sym (header-accepted _ (bytes (cut v)) (cut v .if1 .left) (values v ∙ ap toldRead (s .before .before .h .given .1)) (sym (s .spare-is-zero .ensures) ∙ not-false _ (c .if2 .left)))
 
 pub read-header-spec : {M : Type 1} → statement M
 read-header-spec =

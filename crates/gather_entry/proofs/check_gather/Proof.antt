@@ -17,10 +17,10 @@ abbrev start : tie.After-check → tie.Start
 start c = c .before .before .before
 
 -- what the check at entry tells
-told : (c : tie.After-check) → andThen (entryAnswer (still (start c .args .nx) (start c .args .ny)) (Two (length (start c .args .ux .now)) (length (start c .args .uy .now))) 0 (start c .args .records .now)) (λ ps. result (length ps)) ≡ toldChecked (c .check .result)
+told : (c : tie.After-check) → andThen (entryAnswer (start c .args .caller) (still (start c .args .nx) (start c .args .ny)) (Two (length (start c .args .ux .now)) (length (start c .args .uy .now))) 0 (start c .args .records .now)) (λ ps. result (length ps)) ≡ toldChecked (c .check .result)
 told c =
     let s = start c .args in
-    ap (λ t. andThen (entryAnswer t (Two (length (s .ux .now)) (length (s .uy .now))) 0 (s .records .now)) (λ ps. result (length ps))) (sym (c .before .still .ensures))
+    ap (λ t. andThen (entryAnswer (s .caller) t (Two (length (s .ux .now)) (length (s .uy .now))) 0 (s .records .now)) (λ ps. result (length ps))) (sym (c .before .still .ensures))
     ∙ sym (c .check .ensures)
 
 still-requires : tie.Need-still-requires
@@ -39,19 +39,19 @@ check-velocities-requires : tie.Need-check-velocities-requires
 check-velocities-requires c κs =
     let s = c .before .before .before .before .before .args in
     let a = went-on _ _ (told (c .before .before) ∙ ap toldChecked (c .enum-told .given .1)) in
-    (refl, same-count (s .nx) (s .ny) (s .records .now) (s .ux .now) (s .uy .now) (a .1))
+    (refl, same-count (s .caller) (s .nx) (s .ny) (s .records .now) (s .ux .now) (s .uy .now) (a .1))
 
 returns : tie.Need-returns
 returns c =
     let s = c .before .before .before .before .before .before .args in
-    sym (ap toldOf (bad-entry (s .nx) (s .ny) (s .records .now) (s .ux .now) (s .uy .now)
+    sym (ap toldOf (bad-entry (s .caller) (s .nx) (s .ny) (s .records .now) (s .ux .now) (s .uy .now)
     (kept-refusal _ length (told (c .before .before .before) ∙ ap toldChecked (c .before .refusal .given .1)))))
 
 returns-2 : tie.Need-returns-2
 returns-2 c =
     let s = c .before .before .before .before .before .before .args in
     let a = went-on _ _ (told (c .before .before .before) ∙ ap toldChecked (c .before .enum-told .given .1)) in
-    c .check-velocities .ensures ∙ sym (by-velocities (s .nx) (s .ny) (s .records .now) (s .ux .now) (s .uy .now) (a .1))
+    c .check-velocities .ensures ∙ sym (by-velocities (s .caller) (s .nx) (s .ny) (s .records .now) (s .ux .now) (s .uy .now) (a .1))
 
 pub check-gather-spec : {M : Type 1} → statement M
 check-gather-spec =

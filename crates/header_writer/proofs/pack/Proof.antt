@@ -5,6 +5,7 @@ use lib.Dec.{lit≤}
 use Rattle.refusal.specs.Refused.{result}
 use Rattle.apic.specs.Limits.{SizeLimits}
 use Rattle.bits.proofs.TwosComplement.{residue-asks, residue-is}
+use Rattle.limits.specs.declared.Caller.the-variants.{Bench}
 use Rattle.particles.proofs.Checks.{size-limits}
 use Rattle.bath_file.specs.declared.Header.{Header}
 use Rattle.bath_file.proofs.Checks.{Valid, EdgeLimits, edge-limits, valid}
@@ -24,11 +25,11 @@ header c = start c .args .h
 is : (c : tie.After-struct-told) → Typed (header c)
 is c = typed (header c) (c .struct-told .given)
 
-accepted : (c : tie.After-struct-told) → Valid (header c)
-accepted c = valid (header c) (result (header c)) (start c .pre .0) .0
+accepted : (c : tie.After-struct-told) → Valid Bench (header c)
+accepted c = valid Bench (header c) (result (header c)) (start c .pre .0) .0
 
 sizes : (c : tie.After-struct-told) → SizeLimits (header c .nx) (header c .ny)
-sizes c = size-limits (header c .nx) (header c .ny) (accepted c .size)
+sizes c = size-limits Bench (header c .nx) (header c .ny) (accepted c .size)
 
 edges : (c : tie.After-struct-told) → EdgeLimits (header c .kind) (header c .width)
 edges c = edge-limits (header c .kind) (header c .width) (accepted c .edge)

@@ -4,6 +4,7 @@ use mathlib.Core.Path.{_≡_, sym, ap, subst, _∙_}
 use denote.Ref.{now}
 use Rattle.refusal.specs.Refused.{result}
 use Rattle.refusal.proofs.Answers.{same-result}
+use Rattle.limits.specs.declared.Caller.the-variants.{Bench}
 use Rattle.bath_file.specs.File.{headerOf, checkedHeader, toldRead}
 use Rattle.bath_file.proofs.Checks.{valid, passes}
 use Rattle.bath_file.proofs.Answers.{after, long, write-refused, write-accepted}
@@ -27,8 +28,8 @@ enum-known-accepted c = search needs
 pack-requires : tie.Need-pack-requires
 pack-requires c κs =
     let h = c .before .before .before .before .before .before .before .args .h in
-    let v = valid h (result h) (sym (c .before .before .before .before .check-values .ensures) ∙ ap toldRead (c .before .before .accepted .given .1)) in
-    (subst (λ h. checkedHeader h (result h) ≡ result h) (same-result (v .1)) (passes h (result h) (v .0)), c .before .before .before .before .before .if1 .left)
+    let v = valid Bench h (result h) (sym (c .before .before .before .before .check-values .ensures) ∙ ap toldRead (c .before .before .accepted .given .1)) in
+    (subst (λ h. checkedHeader Bench h (result h) ≡ result h) (same-result (v .1)) (passes Bench h (result h) (v .0)), c .before .before .before .before .before .if1 .left)
 
 returns-2 : tie.Need-returns-2
 returns-2 c =
@@ -42,7 +43,7 @@ returns-3 : tie.Need-returns-3
 returns-3 c =
     let h = c .before .before .before .before .before .before .before .before .before .before .args .h in
     let l = now (c .before .before .before .before .before .before .before .before .before .before .args .bytes) in
-    let v = valid h _ (sym (c .before .before .before .before .before .before .before .check-values .ensures) ∙ ap toldRead (c .before .before .before .before .before .accepted .given .1)) in
+    let v = valid Bench h _ (sym (c .before .before .before .before .before .before .before .check-values .ensures) ∙ ap toldRead (c .before .before .before .before .before .accepted .given .1)) in
     let e = write-accepted h l (c .before .before .before .before .before .before .before .before .if1 .left) (v .0) in
     (sym e, c .before .before .pack .ensures ∙ ap headerOf (sym (same-result (v .1))) ∙ sym (after h l e))
 

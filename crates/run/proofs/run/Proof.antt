@@ -20,15 +20,15 @@ use Rattle.run.proofs.run.Tie as tie
 abbrev begun : tie.After-enum-told → tie.Start
 begun e = e .before .before .before .before .before .before
 
-entered : (e : tie.After-enum-told) → (ps : List Particle) × (runEntry (begun e .args .settings) (begun e .args .steps) (begun e .args .records .now) (gridsOf (begun e .args .mass .now) (begun e .args .px .now) (begun e .args .py .now)) ≡ result ps)
-entered e = entry-done _ _ _ _ _ _ (e .before .before .check .ensures) (e .enum-told .given .1)
+entered : (e : tie.After-enum-told) → (ps : List Particle) × (runEntry (begun e .args .caller) (begun e .args .settings) (begun e .args .steps) (begun e .args .records .now) (gridsOf (begun e .args .mass .now) (begun e .args .px .now) (begun e .args .py .now)) ≡ result ps)
+entered e = entry-done _ _ _ _ _ _ _ (e .before .before .check .ensures) (e .enum-told .given .1)
 
 ready : (e : tie.After-enum-told) → RunReady (begun e .args .settings) (begun e .args .records .now) (begun e .args .mass .now) (begun e .args .px .now) (begun e .args .py .now)
-ready e = run-ready _ (begun e .args .steps) _ _ _ _ (entered e .1)
+ready e = run-ready (begun e .args .caller) _ (begun e .args .steps) _ _ _ _ (entered e .1)
 
 -- what a run of the accepted set leaves is what the caller sees
-sees : (e : tie.After-enum-told) (r : Ran) {records mass : List ℕ} {px py : List ℤ} → Runs (begun e .args .settings) (begun e .args .steps) (begun e .args .records .now) (begun e .args .mass .now) (begun e .args .px .now) (begun e .args .py .now) r records mass px py → Sees (runAfter (begun e .args .settings) (begun e .args .steps) (begun e .args .records .now) (gridsOf (begun e .args .mass .now) (begun e .args .px .now) (begun e .args .py .now))) (toldRan r) records mass px py
-sees e r h = run-accepted _ _ _ _ _ _ (entered e .1) h
+sees : (e : tie.After-enum-told) (r : Ran) {records mass : List ℕ} {px py : List ℤ} → Runs (begun e .args .settings) (begun e .args .steps) (begun e .args .records .now) (begun e .args .mass .now) (begun e .args .px .now) (begun e .args .py .now) r records mass px py → Sees (runAfter (begun e .args .caller) (begun e .args .settings) (begun e .args .steps) (begun e .args .records .now) (gridsOf (begun e .args .mass .now) (begun e .args .px .now) (begun e .args .py .now))) (toldRan r) records mass px py
+sees e r h = run-accepted _ _ _ _ _ _ _ (entered e .1) h
 
 -- ---- the needs
 
@@ -42,7 +42,7 @@ same-length : tie.Need-same-length
 same-length c = search needs
 
 returns : tie.Need-returns
-returns c = run-refused _ _ _ _ _ _ (c .before .refusal .given .0 .0) (entry-refused _ _ _ _ _ _ (c .before .before .before .check .ensures) (c .before .refusal .given .1))
+returns c = run-refused _ _ _ _ _ _ _ (c .before .refusal .given .0 .0) (entry-refused _ _ _ _ _ _ _ (c .before .before .before .check .ensures) (c .before .refusal .given .1))
 
 enum-told : tie.Need-enum-told
 enum-told c = search needs

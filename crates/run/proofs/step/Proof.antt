@@ -31,7 +31,7 @@ same-length-4 c = search needs
 returns : tie.Need-returns
 returns c =
     let s = c .before .before .before .before .before .before .before .before .before .before .before .before .before .before .before in
-    step-sees (s .args .settings) (s .args .records .now) (gridsOf (s .args .mass .now) (s .args .px .now) (s .args .py .now)) (ap (λ r. toldRan r .stop) (c .enum-told .given .1)) (c .before .before .before .before .before .before .before .before .run .ensures)
+    step-sees (s .args .caller) (s .args .settings) (s .args .records .now) (gridsOf (s .args .mass .now) (s .args .px .now) (s .args .py .now)) (ap (λ r. toldRan r .stop) (c .enum-told .given .1)) (c .before .before .before .before .before .before .before .before .run .ensures)
 
 same-length-5 : tie.Need-same-length-5
 same-length-5 c = search needs
@@ -48,7 +48,7 @@ same-length-8 c = search needs
 returns-2 : tie.Need-returns-2
 returns-2 c =
     let s = c .before .before .before .before .before .before .before .before .before .before .before .before .before .before .before .before in
-    step-sees (s .args .settings) (s .args .records .now) (gridsOf (s .args .mass .now) (s .args .px .now) (s .args .py .now)) (ap (λ r. toldRan r .stop) (c .before .refusal .given .1)) (c .before .before .before .before .before .before .before .before .before .run .ensures)
+    step-sees (s .args .caller) (s .args .settings) (s .args .records .now) (gridsOf (s .args .mass .now) (s .args .px .now) (s .args .py .now)) (ap (λ r. toldRan r .stop) (c .before .refusal .given .1)) (c .before .before .before .before .before .before .before .before .before .run .ensures)
 
 pub step-spec : {M : Type 1} → statement M
 step-spec =

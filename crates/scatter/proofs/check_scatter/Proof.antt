@@ -18,7 +18,7 @@ returns : tie.Need-returns
 returns c =
     let a = c .before .before .before .args in
     c .check .ensures
-    ∙ ap (λ s. andThen (entryAnswer s (Three (a .mass) (a .px) (a .py)) 0 (a .records .now)) (λ ps. result (length ps))) (c .before .still .ensures)
+    ∙ ap (λ s. andThen (entryAnswer (a .caller) s (Three (a .mass) (a .px) (a .py)) 0 (a .records .now)) (λ ps. result (length ps))) (c .before .still .ensures)
 
 pub check-scatter-spec : {M : Type 1} → statement M
 check-scatter-spec = tie.close (tie.spec still-requires check-requires returns)

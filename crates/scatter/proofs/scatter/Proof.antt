@@ -22,7 +22,7 @@ scatter-set-requires : tie.Need-scatter-set-requires
 scatter-set-requires c κs =
     let t = c .before .before .before in
     let a = went-on _ _ (sym (t .before .before .check-scatter .ensures) ∙ ap toldChecked (t .enum-told .given .1)) in
-    scatter-set _ _ _ _ _ _ (a .1)
+    scatter-set _ _ _ _ _ _ _ (a .1)
 
 returns : tie.Need-returns
 returns c = refused-leaves (kept-refusal _ length (sym (c .before .before .before .check-scatter .ensures) ∙ ap toldChecked (c .before .refusal .given .1)))
@@ -41,7 +41,7 @@ returns-2 c =
     let filled = c .before .before .before .before in
     let t = filled .before .before .before .before in
     let a = went-on _ _ (sym (t .before .before .check-scatter .ensures) ∙ ap toldChecked (t .enum-told .given .1)) in
-    done-fills _ _ _ _ _ _ (a .1) (filled .scatter-set .ensures)
+    done-fills _ _ _ _ _ _ _ (a .1) (filled .scatter-set .ensures)
 
 pub scatter-spec : {M : Type 1} → statement M
 scatter-spec =

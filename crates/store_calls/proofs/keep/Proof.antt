@@ -31,7 +31,7 @@ same-length c = search needs
 returns : tie.Need-returns
 returns c =
     let s = c .before .before .before .before .before .before .before .before .before in
-    keep-begun (now (s .args .store)) (now (s .args .name)) (now (s .args .file)) (begun (now (s .args .name)) (c .before .before .before .before .valid-store .ensures) (c .before .before .before .begin .ensures) (ap toldChanged (c .before .refusal .given .1)))
+    keep-begun (s .args .caller) (now (s .args .store)) (now (s .args .name)) (now (s .args .file)) (begun (now (s .args .name)) (c .before .before .before .before .valid-store .ensures) (c .before .before .before .begin .ensures) (ap toldChanged (c .before .refusal .given .1)))
 
 same-length-2 : tie.Need-same-length-2
 same-length-2 c = search needs

@@ -3,6 +3,7 @@ use borrow.Author.Needs.{needs}
 use mathlib.Core.Path.{sym, ap, _∙_}
 use denote.Ref.{now}
 use Rattle.bath_file.specs.File.{toldRead}
+use Rattle.bath_file.proofs.Callers.{bench-file}
 use Rattle.store.proofs.Bytes.{name-held}
 use Rattle.store.proofs.Stores.{file-long}
 use Rattle.store.proofs.Calls.{store-held}
@@ -25,13 +26,13 @@ keep-file-requires c κs =
     record {
       store-long = store-held (now (s .args .store)) (s .pre .form) .long;
       name-long = name-held (now (s .args .name)) (s .pre .named) .short;
-      file-long = file-long (now (s .args .file)) (sym (c .before .before .before .read-file .ensures) ∙ ap toldRead (c .before .enum-told .given .1)) .most;
+      file-long = file-long (now (s .args .file)) (bench-file (s .args .caller) (now (s .args .file)) (sym (c .before .before .before .read-file .ensures) ∙ ap toldRead (c .before .enum-told .given .1))) .most;
     }
 
 returns : tie.Need-returns
 returns c =
     let s = c .before .before .before .before .before .before .before in
-    keep-bath (now (s .args .store)) (now (s .args .name)) (now (s .args .file)) (s .pre) (sym (c .before .before .before .read-file .ensures) ∙ ap toldRead (c .before .refusal .given .1))
+    keep-bath (s .args .caller) (now (s .args .store)) (now (s .args .name)) (now (s .args .file)) (s .pre) (sym (c .before .before .before .read-file .ensures) ∙ ap toldRead (c .before .refusal .given .1))
 
 same-length : tie.Need-same-length
 same-length c = search needs
@@ -39,7 +40,7 @@ same-length c = search needs
 returns-2 : tie.Need-returns-2
 returns-2 c =
     let s = c .before .before .before .before .before .before .before .before .before .before in
-    keep-placed (now (s .args .store)) (now (s .args .name)) (now (s .args .file)) (s .pre) (sym (c .before .before .before .before .before .before .read-file .ensures) ∙ ap toldRead (c .before .before .before .before .enum-told .given .1)) (c .before .before .keep-file .ensures)
+    keep-placed (s .args .caller) (now (s .args .store)) (now (s .args .name)) (now (s .args .file)) (s .pre) (sym (c .before .before .before .before .before .before .read-file .ensures) ∙ ap toldRead (c .before .before .before .before .enum-told .given .1)) (c .before .before .keep-file .ensures)
 
 pub keep-named-spec : {M : Type 1} → statement M
 keep-named-spec =

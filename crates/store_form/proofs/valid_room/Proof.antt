@@ -11,6 +11,7 @@ use lib.Dec.{leb}
 use lib.ListN.{length, take, drop}
 use lib.Seq.{length-take-le}
 use Rattle.refusal.specs.Refused.{Answer, accepted}
+use Rattle.limits.specs.declared.Caller.the-variants.{Bench}
 use Rattle.bath_file.specs.declared.Header.{Header}
 use Rattle.bath_file.specs.declared.FileRead.{FileRead}
 use Rattle.bath_file.specs.File.{fileAnswer, toldRead}
@@ -20,15 +21,15 @@ use Rattle.store_form.proofs.valid_room.Statement.{statement}
 use Rattle.store_form.proofs.valid_room.Tie as tie
 
 module _ (room : List ℕ) {end : ℕ} (e : end ≡ fileLength room) where
-  opened : validRoom room ≡ ((leb end (length room) && accepted (fileAnswer (take end room))) && allZero (drop end room))
+  opened : validRoom room ≡ ((leb end (length room) && accepted (fileAnswer Bench (take end room))) && allZero (drop end room))
   unfolding validRoom
-  opened = ap (λ n. (leb n (length room) && accepted (fileAnswer (take n room))) && allZero (drop n room)) (sym e)
+  opened = ap (λ n. (leb n (length room) && accepted (fileAnswer Bench (take n room))) && allZero (drop n room)) (sym e)
 
   too-long : length room < end → validRoom room ≡ false
   too-long h =
-      opened ∙ ap (λ t. (t && accepted (fileAnswer (take end room))) && allZero (drop end room)) (lt-leb end (length room) h)
+      opened ∙ ap (λ t. (t && accepted (fileAnswer Bench (take end room))) && allZero (drop end room)) (lt-leb end (length room) h)
 
-  by-file : end ≤ length room → {a : Answer Header} → fileAnswer (take end room) ≡ a → validRoom room ≡ (accepted a && allZero (drop end room))
+  by-file : end ≤ length room → {a : Answer Header} → fileAnswer Bench (take end room) ≡ a → validRoom room ≡ (accepted a && allZero (drop end room))
   by-file h f =
       opened ∙ ap₂ (λ t a. (t && accepted a) && allZero (drop end room)) (le-leb end (length room) h) f
 

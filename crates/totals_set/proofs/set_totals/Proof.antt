@@ -1,47 +1,68 @@
--- `set_totals` meets its contract: the checks at entry, in order, and then the walk. Assumes nothing.
+-- `set_totals` meets its contract: the checks before the records, and then the walk. Assumes nothing.
 use mathlib.Core.Path.{_≡_, sym, ap, _∙_}
-use mathlib.Core.Bool.{true}
 use native.Mathlib.Omega.{arith}
 use lib.ListN.{length}
 use borrow.Author.Needs.{needs}
-use borrow.Author.Tests.{not-true, not-false}
-use Rattle.refusal.specs.Refused.{result, andThen}
-use Rattle.particles.specs.Set.{validSize, validLength}
+use Rattle.refusal.specs.Refused.{Answer, result}
+use Rattle.particles.proofs.Checks.{size-limits, length-limits}
+use Rattle.settings.specs.Settings.{still}
+use Rattle.entry.specs.declared.Buffers.the-variants.{None}
+use Rattle.entry.specs.Entry.{toldBegun, beginAnswer}
+use Rattle.entry.proofs.Entry.{passed-checks, set-begun}
 use Rattle.totals.specs.Totals.{totalsOf}
-use Rattle.particles.proofs.Checks.{size-limits, length-limits, bad-size, bad-length, good-entry}
 use Rattle.totals_set.proofs.set_totals.Statement.{statement}
 use Rattle.totals_set.proofs.set_totals.Tie as tie
 
-size : (c : tie.Else1) → validSize (c .before .before .before .args .nx) (c .before .before .before .args .ny) ≡ true
-size c = sym (c .before .size-is-valid .ensures) ∙ not-false (c .before .size-is-valid .result) (c .if1 .left)
+abbrev start : tie.After-begin → tie.Start
+start c = c .before .before .before
 
-whole : (c : tie.Else2) → validLength (length (c .before .before .before .before .before .args .records .now)) ≡ true
-whole c = sym (c .before .length-is-valid .ensures) ∙ not-false (c .before .length-is-valid .result) (c .if2 .left)
+-- what the checks before the records tell
+checks : (c : tie.After-begin) {a : Answer Unit} → toldBegun (c .begin .result) ≡ a → let s = start c .args in beginAnswer (s .caller) (still (s .nx) (s .ny)) None 0 (length (s .records .now)) ≡ a
+checks c e =
+    let s = start c .args in
+    ap (λ t. beginAnswer (s .caller) t None 0 (length (s .records .now))) (sym (c .before .still .ensures)) ∙ sym (c .begin .ensures) ∙ e
 
-size-is-valid-requires : tie.Need-size-is-valid-requires
-size-is-valid-requires c κs = search needs
+still-requires : tie.Need-still-requires
+still-requires c κs = search needs
 
-returns : tie.Need-returns
-returns c = sym (bad-size (c .before .before .before .args .nx) (c .before .before .before .args .ny) (c .before .before .before .args .records .now) (λ ps. result (totalsOf ps)) (sym (c .before .size-is-valid .ensures) ∙ not-true (c .before .size-is-valid .result) (c .if1 .taken)))
+begin-requires : tie.Need-begin-requires
+begin-requires c κs = search needs
 
-length-is-valid-requires : tie.Need-length-is-valid-requires
-length-is-valid-requires c κs = search needs
+enum-known-refusal : tie.Need-enum-known-refusal
+enum-known-refusal c = search needs
 
-returns-2 : tie.Need-returns-2
-returns-2 c =
-    sym (bad-length (c .before .before .before .before .before .args .nx) (c .before .before .before .before .before .args .ny) (c .before .before .before .before .before .args .records .now) (λ ps. result (totalsOf ps)) (size (c .before .before)) (sym (c .before .length-is-valid .ensures) ∙ not-true (c .before .length-is-valid .result) (c .if2 .taken)))
+enum-told : tie.Need-enum-told
+enum-told c = search needs
 
 walk-requires : tie.Need-walk-requires
 walk-requires c κs =
-    let l = length-limits (length (c .before .before .before .before .before .args .records .now)) (whole c) in
-    (size-limits (c .before .before .before .before .before .args .nx) (c .before .before .before .before .before .args .ny) (size (c .before .before)), l .count, omega arith)
+    let b = c .before .before in
+    let s = start b .args in
+    let p = passed-checks (s .caller) (still (s .nx) (s .ny)) None 0 (length (s .records .now)) (checks b (ap toldBegun (c .enum-told .given .1))) .0 in
+    let l = length-limits (length (s .records .now)) (p .whole) in
+    (size-limits (s .caller) (s .nx) (s .ny) (p .size), l .count, omega arith)
 
-returns-3 : tie.Need-returns-3
-returns-3 c =
+returns : tie.Need-returns
+returns c =
+    let b = c .before .before .before in
+    let s = start b .args in
+    sym (set-begun (s .caller) (s .nx) (s .ny) (s .records .now) (λ ps. result (totalsOf ps)) (checks b (ap toldBegun (c .before .refusal .given .1))))
+
+returns-2 : tie.Need-returns-2
+returns-2 c =
+    let b = c .before .before .before in
+    let s = start b .args in
     c .walk .ensures
-    ∙ ap (λ a. andThen a (λ ps. result (totalsOf ps))) (sym (good-entry (c .before .before .before .before .before .before .args .nx) (c .before .before .before .before .before .before .args .ny) (c .before .before .before .before .before .before .args .records .now) (size (c .before .before .before)) (whole (c .before))))
+    ∙ sym (set-begun (s .caller) (s .nx) (s .ny) (s .records .now) (λ ps. result (totalsOf ps)) (checks b (ap toldBegun (c .before .enum-told .given .1))))
 
 pub set-totals-spec : {M : Type 1} → statement M
 set-totals-spec =
     tie.close
-    (tie.spec size-is-valid-requires returns length-is-valid-requires returns-2 walk-requires returns-3)
+    (tie.spec
+    still-requires
+    begin-requires
+    enum-known-refusal
+    enum-told
+    walk-requires
+    returns
+    returns-2)

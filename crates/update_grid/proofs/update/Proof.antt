@@ -21,14 +21,14 @@ abbrev start : tie.After-enum-told → tie.Start
 start c = c .before .before .before .before
 
 -- past the checks at entry
-begun : (c : tie.After-enum-told) → beginAnswer (start c .args .settings) (buffers (start c .args .settings) (start c .args .mass .now) (start c .args .px .now) (start c .args .py .now)) 0 0 ≡ done
+begun : (c : tie.After-enum-told) → beginAnswer (start c .args .caller) (start c .args .settings) (buffers (start c .args .mass .now) (start c .args .px .now) (start c .args .py .now)) 0 0 ≡ done
 begun c = sym (c .before .before .begin .ensures) ∙ ap toldBegun (c .enum-told .given .1)
 
-passed : (c : tie.After-enum-told) → Passed (start c .args .settings) (buffers (start c .args .settings) (start c .args .mass .now) (start c .args .px .now) (start c .args .py .now)) 0 0
-passed c = passed-checks _ _ 0 0 (begun c) .0
+passed : (c : tie.After-enum-told) → Passed (start c .args .caller) (start c .args .settings) (buffers (start c .args .mass .now) (start c .args .px .now) (start c .args .py .now)) 0 0
+passed c = passed-checks _ _ _ 0 0 (begun c) .0
 
 forces : (c : tie.After-enum-told) → ForceLimits (start c .args .settings)
-forces c = passed-checks _ _ 0 0 (begun c) .1
+forces c = passed-checks _ _ _ 0 0 (begun c) .1
 
 -- gravity as it was given
 back-x : (c : tie.After-enum-told) → toZ w64 (ofZ w64 (start c .args .settings .gx)) ≡ start c .args .settings .gx
@@ -47,8 +47,8 @@ nodes c =
     ap₂ (λ x y. checkNodes D (s .settings .nx * s .settings .ny) x y (s .mass .now) (s .px .now) (s .py .now)) (sym (back-x (entered c))) (sym (back-y (entered c)))
     ∙ sym (c .check-nodes .ensures)
 
-answer : (c : tie.After-check-nodes) → updateAnswer (start (entered c) .args .settings) (start (entered c) .args .mass .now) (start (entered c) .args .px .now) (start (entered c) .args .py .now) ≡ toldUpdate (c .check-nodes .result)
-answer c = by-entry _ _ _ _ (begun (entered c)) ∙ nodes c
+answer : (c : tie.After-check-nodes) → updateAnswer (start (entered c) .args .caller) (start (entered c) .args .settings) (start (entered c) .args .mass .now) (start (entered c) .args .px .now) (start (entered c) .args .py .now) ≡ toldUpdate (c .check-nodes .result)
+answer c = by-entry _ _ _ _ _ (begun (entered c)) ∙ nodes c
 
 begin-requires : tie.Need-begin-requires
 begin-requires c κs = search needs
@@ -58,13 +58,13 @@ enum-known-refusal c = search needs
 
 returns : tie.Need-returns
 returns c =
-    refused-leaves (by-entry _ _ _ _ (sym (c .before .before .before .begin .ensures) ∙ ap toldBegun (c .before .refusal .given .1)))
+    refused-leaves (by-entry _ _ _ _ _ (sym (c .before .before .before .begin .ensures) ∙ ap toldBegun (c .before .refusal .given .1)))
 
 enum-told : tie.Need-enum-told
 enum-told c = search needs
 
 mul-count : tie.Need-mul-count
-mul-count c = count-fits _ _ (passed (c .before) .size)
+mul-count c = count-fits (start (c .before) .args .caller) _ _ (passed (c .before) .size)
 
 check-nodes-requires : tie.Need-check-nodes-requires
 check-nodes-requires c κs =
@@ -81,7 +81,7 @@ enum-told-2 c = search needs
 update-all-requires : tie.Need-update-all-requires
 update-all-requires c κs =
     let n = c .before .before .before .before in
-    grid-limits _ _ _ _ (passed (entered n)) (forces (entered n)) (nodes n ∙ ap toldUpdate (c .before .before .enum-told2 .given .1))
+    grid-limits _ _ _ _ _ (passed (entered n)) (forces (entered n)) (nodes n ∙ ap toldUpdate (c .before .before .enum-told2 .given .1))
 
 same-length : tie.Need-same-length
 same-length c = search needs
@@ -102,7 +102,7 @@ returns-3 : tie.Need-returns-3
 returns-3 c =
     let u = c .before .before in
     let d = u .before .before .before in
-    done-is _ _ _ _ (answer (d .before .before) ∙ ap toldUpdate (d .enum-told2 .given .1)) (u .update-all .ensures .0) (u .update-all .ensures .1)
+    done-is _ _ _ _ _ (answer (d .before .before) ∙ ap toldUpdate (d .enum-told2 .given .1)) (u .update-all .ensures .0) (u .update-all .ensures .1)
 
 pub update-spec : {M : Type 1} → statement M
 update-spec =

@@ -1,11 +1,11 @@
 //! The calls whose stack is measured: every operation, accepted and refused, on sets of every size.
 
-use compare::inputs::{self, Call};
+use compare::inputs::{self, Make, MakeFor};
 use compare::stream;
 use reference::generator::Generator;
 use reference::limits::{MAX_FILE_LENGTH, STORE_LENGTH};
 use reference::particle_set::pack_records;
-use reference::{keep, Edge, Grid, Header, Particle, Settings, Size};
+use reference::{keep, Caller, Edge, Grid, Header, Particle, Settings, Size};
 use vectors::{Buffers, Operation};
 
 use super::table;
@@ -108,8 +108,8 @@ impl Bath {
         self.file_of(&self.bytes(), 3)
     }
 
-    /// Every operation that takes a set or a grid.
-    fn calls(&self, mut each: impl FnMut(Operation, Buffers)) {
+    /// Every operation that takes a set or a grid, by a caller.
+    fn calls(&self, caller: Caller, mut each: impl FnMut(Caller, Operation, Buffers)) {
         let Settings { size, .. } = self.settings;
         let records = self.bytes();
         let operations = [
@@ -130,12 +130,12 @@ impl Bath {
             for speed in [5, 20_000] {
                 let grid = Grid::filled(self.nodes, 3, speed, -speed);
                 let bytes = records.clone();
-                each(operation, Buffers::new(bytes, grid));
+                each(caller, operation, Buffers::new(bytes, grid));
             }
         }
         for steps in [3, 10_001] {
             let bytes = self.file_of(&records, steps);
-            each(Operation::ReadFile, Buffers::of_bytes(bytes));
+            each(caller, Operation::ReadFile, Buffers::of_bytes(bytes));
         }
     }
 }
@@ -152,7 +152,7 @@ fn store(names: &[&[u8]], file: &[u8]) -> Vec<u8> {
 /// Calls with this file, on stores that are empty, that hold three of the largest baths, with this one and
 /// without, or four, and that are without the form; with names that are held, that are not, and that are
 /// none.
-fn store_calls(file: &[u8], largest: &[u8], mut each: impl FnMut(Operation, Buffers)) {
+fn store_calls(file: &[u8], largest: &[u8], mut each: impl FnMut(Caller, Operation, Buffers)) {
     let others: [&[u8]; 4] = [b"A", b"SECOND", b"ABCDEFGH", b"Z"];
     let mut held = store(&others[..3], largest);
     let with_gap = held.clone();
@@ -170,22 +170,32 @@ fn store_calls(file: &[u8], largest: &[u8], mut each: impl FnMut(Operation, Buff
     ] {
         for name in [&b"NAME"[..], b"OTHER", b"name"] {
             let buffers = |bytes: Vec<u8>| Buffers::of_store(store.clone(), name, bytes);
-            each(Operation::Keep, buffers(file.to_vec()));
-            each(Operation::Forget, buffers(Vec::new()));
+            for caller in Caller::ALL {
+                each(caller, Operation::Keep, buffers(file.to_vec()));
+            }
+            each(Caller::Bench, Operation::Forget, buffers(Vec::new()));
             for length in [MAX_FILE_LENGTH, MAX_FILE_LENGTH - 1] {
-                each(Operation::Return, buffers(vec![0xA5; length]));
+                let buffers = buffers(vec![0xA5; length]);
+                each(Caller::Bench, Operation::Return, buffers);
             }
         }
     }
 }
 
-/// The inputs of the comparison for each operation.
-const MADE: [fn(&mut Generator) -> Call; 16] = [
+/// The inputs of the comparison for each operation that knows no caller.
+const MADE: [Make; 6] = [
     inputs::read_record,
     inputs::write_record,
+    inputs::weights,
+    inputs::write_header,
+    inputs::return_to,
+    inputs::forget,
+];
+
+/// Those for each operation that serves both.
+const MADE_FOR: [MakeFor; 10] = [
     inputs::check_set,
     inputs::totals,
-    inputs::weights,
     inputs::scatter,
     inputs::adding_scatter,
     inputs::update,
@@ -193,31 +203,39 @@ const MADE: [fn(&mut Generator) -> Call; 16] = [
     inputs::step,
     inputs::run,
     inputs::read_file,
-    inputs::write_header,
     inputs::keep,
-    inputs::return_to,
-    inputs::forget,
 ];
 
-/// All calls: baths of every size on the smallest grid, on the largest and on one between, stores, the
-/// vectors, and inputs of the comparison.
-pub fn all(mut each: impl FnMut(Operation, Buffers)) {
+/// All calls: for each caller baths of every size on the smallest grid, on its largest and on one between, stores,
+/// the vectors, and inputs of the comparison.
+pub fn all(mut each: impl FnMut(Caller, Operation, Buffers)) {
     let largest = Bath::new(4096, 48).file();
     for count in COUNTS {
-        store_calls(&Bath::new(count, 48).file(), &largest, &mut each);
-        for side in [4, 16, 48] {
-            for bath in Bath::new(count, side).variants() {
-                bath.calls(&mut each);
+        for side in [16, 48] {
+            store_calls(&Bath::new(count, side).file(), &largest, &mut each);
+        }
+        for (caller, sides) in [(Caller::Bench, [4, 16, 48]), (Caller::Page, [4, 9, 16])] {
+            for side in sides {
+                for bath in Bath::new(count, side).variants() {
+                    bath.calls(caller, &mut each);
+                }
             }
         }
     }
     for case in vectors::cases() {
-        each(case.operation, case.before);
+        each(case.caller, case.operation, case.before);
     }
-    for (number, make) in MADE.iter().enumerate() {
-        for k in 0..INPUTS {
+    for k in 0..INPUTS {
+        for (number, make) in MADE.iter().enumerate() {
             let (operation, buffers) = make(&mut stream(&format!("stack {number}"), k));
-            each(operation, buffers);
+            each(Caller::Bench, operation, buffers);
+        }
+        for (number, make) in MADE_FOR.iter().enumerate() {
+            for caller in Caller::ALL {
+                let mut numbers = stream(&format!("stack of both {number}"), k);
+                let (operation, buffers) = make(&mut numbers, caller);
+                each(caller, operation, buffers);
+            }
         }
     }
 }

@@ -20,12 +20,12 @@ use table::{Cell, Table, PROGRAM};
 pub fn measured() -> Table {
     let mut table = Table::default();
     let mut stack = Stack::new();
-    calls::all(|operation, mut buffers| {
+    calls::all(|caller, operation, mut buffers| {
         let particles = table::particles(operation, &buffers);
         let call = |library: &_| by_library(library, operation, &mut buffers, 0);
         // Some inputs have numbers that no call takes.
-        if let (Some((answer, _)), depth) = stack.depth(call) {
-            table.raise(table::cell(operation, particles, answer), depth);
+        if let (Some((answer, _)), depth) = stack.depth(caller, call) {
+            table.raise(table::cell(caller, operation, particles, answer), depth);
         }
     });
     for (column, file) in calls::files() {

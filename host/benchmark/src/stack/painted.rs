@@ -12,9 +12,10 @@ use std::sync::atomic::{AtomicPtr, Ordering};
 use std::sync::{Mutex, PoisonError};
 
 use engine::ffi;
-use engine::library::Library;
+use engine::library::{Functions, Library};
+use reference::Caller;
 
-use crate::library::functions;
+use crate::library::{functions, page_functions};
 
 /// The length of the stack in words: more than any call needs.
 const LENGTH: usize = 2 << 17;
@@ -22,7 +23,7 @@ const LENGTH: usize = 2 << 17;
 const CHUNK: usize = 512;
 const PATTERN: u64 = 0xA5A5_A5A5_A5A5_A5A5;
 
-/// The upper end of the stack that the calls of [`PAINTED`] run on, a multiple of 16.
+/// The upper end of the stack that the calls of [`painted`] run on, a multiple of 16.
 static TOP: AtomicPtr<u64> = AtomicPtr::new(std::ptr::null_mut());
 /// Held by whoever has set it.
 static IN_USE: Mutex<()> = Mutex::new(());
@@ -61,12 +62,21 @@ macro_rules! painted {
     }};
 }
 
-/// The static library, each call on the stack at [`TOP`].
+// SAFETY, of both: each takes what the function takes that it calls, and answers what that does.
 #[allow(clippy::missing_transmute_annotations)]
-const PAINTED: Library = {
-    // SAFETY: each takes what the function takes that it calls, and answers what that does.
-    unsafe { Library::new(functions!(painted)) }
-};
+const BENCH: Functions = unsafe { functions!(painted) };
+#[allow(clippy::missing_transmute_annotations)]
+const PAGE: Functions = unsafe { page_functions!(painted, BENCH) };
+
+/// The static library as a caller calls it, each call on the stack at [`TOP`].
+fn painted(caller: Caller) -> Library {
+    let functions = match caller {
+        Caller::Bench => BENCH,
+        Caller::Page => PAGE,
+    };
+    // SAFETY: they are the static library's.
+    unsafe { Library::new(functions) }
+}
 
 /// A stack that is filled with the pattern.
 pub struct Stack {
@@ -82,14 +92,14 @@ impl Stack {
         }
     }
 
-    /// The answer of calls of the library that they are given, and how many bytes of stack the deepest
+    /// The answer of a caller's calls of the library that they are given, and how many bytes of stack the deepest
     /// of them takes.
-    pub fn depth<T>(&mut self, calls: impl FnOnce(&Library) -> T) -> (T, usize) {
+    pub fn depth<T>(&mut self, caller: Caller, calls: impl FnOnce(&Library) -> T) -> (T, usize) {
         let guard = IN_USE.lock().unwrap_or_else(PoisonError::into_inner);
         let end = self.words.as_mut_ptr_range().end;
         let spare = end as usize % 16 / 8;
         TOP.store(end.wrapping_sub(spare), Ordering::SeqCst);
-        let answer = calls(&PAINTED);
+        let answer = calls(&painted(caller));
         drop(guard);
         let used = self.used();
         assert!(

@@ -5,14 +5,18 @@ use std::fs;
 use std::path::Path;
 
 use reference::limits::{HEADER_LENGTH, RECORD_LENGTH};
-use reference::Store;
+use reference::{Caller, Store};
 use vectors::{Buffers, Operation};
 
-/// The rows: the name in README, and in the C header where it is a call.
-pub const ROWS: [(&str, Option<&str>); 19] = [
+/// The rows: the name in README, and in the C header where it is a call. The lesson page has rows of its own where
+/// [`OF_THE_PAGE`] says so; its other calls stand in the bench's.
+pub const ROWS: [(&str, Option<&str>); 22] = [
     ("run", Some("gondwize_run")),
     ("run of no step", Some("gondwize_run, no step")),
     ("step", Some("gondwize_step")),
+    ("lesson page: run", Some("gondwize_page_run")),
+    ("lesson page: run of no step", Some(".. no step")),
+    ("lesson page: step", Some("gondwize_page_step")),
     ("scatter", Some("gondwize_scatter")),
     ("adding scatter", Some("gondwize_adding_scatter")),
     ("adding scatter, to 320 nodes", Some(".. to 320 nodes")),
@@ -30,6 +34,9 @@ pub const ROWS: [(&str, Option<&str>); 19] = [
     ("forget", Some("gondwize_forget")),
     ("the program", None),
 ];
+
+/// The lesson page's rows.
+pub const OF_THE_PAGE: std::ops::Range<usize> = 3..6;
 
 /// The program's row.
 pub const PROGRAM: usize = ROWS.len() - 1;
@@ -89,14 +96,20 @@ pub fn particles(operation: Operation, before: &Buffers) -> usize {
     }
 }
 
-/// The place of a call on so many particles that answers this number.
-pub fn cell(operation: Operation, particles: usize, answer: u64) -> Cell {
+/// The place of a caller's call on so many particles that answers this number.
+pub fn cell(caller: Caller, operation: Operation, particles: usize, answer: u64) -> Cell {
+    let page = caller == Caller::Page;
     let name = match operation {
+        Operation::Run(_, 0) if page => "lesson page: run of no step",
+        Operation::Run(..) if page => "lesson page: run",
+        Operation::Step(_) if page => "lesson page: step",
         Operation::Run(_, 0) => "run of no step",
         Operation::Run(..) => "run",
         Operation::Step(_) => "step",
         Operation::Scatter(_) => "scatter",
-        Operation::AddingScatter(size) if size.check().is_ok() && size.nodes() <= 320 => {
+        Operation::AddingScatter(size)
+            if size.check(caller.limits()).is_ok() && size.nodes() <= 320 =>
+        {
             "adding scatter, to 320 nodes"
         }
         Operation::AddingScatter(_) => "adding scatter",

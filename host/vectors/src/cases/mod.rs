@@ -2,6 +2,7 @@
 
 mod files;
 mod halves;
+mod page;
 mod records;
 mod sets;
 mod simulation;
@@ -10,13 +11,13 @@ mod transfers;
 
 use reference::limits::RECORD_LENGTH;
 use reference::particle_set::pack_records;
-use reference::{Edge, Grid, Particle, Refusal, Settings, Size};
+use reference::{Caller, Edge, Grid, Particle, Refusal, Settings, Size};
 
 use crate::{perform, Buffers, Case, Operation};
 
 /// All cases.
 pub fn cases() -> Vec<Case> {
-    [
+    let bench = [
         records::cases(),
         sets::cases(),
         transfers::cases(),
@@ -25,7 +26,9 @@ pub fn cases() -> Vec<Case> {
         files::cases(),
         stores::cases(),
     ]
-    .concat()
+    .concat();
+    let repeated = page::repeated(&bench);
+    [bench, page::cases(), repeated].concat()
 }
 
 /// The smallest grid.
@@ -38,10 +41,22 @@ fn case(
     before: Buffers,
     stated: Option<(u32, usize)>,
 ) -> Case {
+    case_for(Caller::Bench, name, operation, before, stated)
+}
+
+/// A caller's case.
+fn case_for(
+    caller: Caller,
+    name: impl Into<String>,
+    operation: Operation,
+    before: Buffers,
+    stated: Option<(u32, usize)>,
+) -> Case {
     let mut after = before.clone();
-    let answer = perform(operation, &mut after);
+    let answer = perform(caller, operation, &mut after);
     Case {
         name: name.into(),
+        caller,
         operation,
         before,
         answer,

@@ -2,9 +2,11 @@
 
 use reference::limits::RECORD_LENGTH;
 use reference::particle_set::pack_records;
-use reference::{Edge, Grid, Particle, Settings, Size};
+use reference::{Caller, Edge, Grid, Particle, Settings, Size};
 
-use super::{broken, case, copies, corners, differing_marks, edge_name, heaviest, lone, marked};
+use super::{
+    broken, case, case_for, copies, corners, differing_marks, edge_name, heaviest, lone, marked,
+};
 use super::{marked_records, printed, refused_forcings, refused_sets, used_grid, with_grid};
 use super::{REFUSED_GRIDS, REFUSED_SIZES, SMALL};
 use crate::{Buffers, Case, Operation};
@@ -25,6 +27,7 @@ pub fn cases() -> Vec<Case> {
         held_list(),
         marks(),
         marks_list(),
+        callers_list(),
     ]
     .concat()
 }
@@ -361,16 +364,22 @@ fn list(name: &str, start: &[Particle], calls: &[ListCall]) -> Vec<Case> {
 }
 
 /// The same from these records on.
-fn list_of(name: &str, mut bytes: Vec<u8>, calls: &[ListCall]) -> Vec<Case> {
+fn list_of(name: &str, bytes: Vec<u8>, calls: &[ListCall]) -> Vec<Case> {
+    let calls = calls.iter().map(|call| (Caller::Bench, call.clone()));
+    list_for(name, bytes, calls)
+}
+
+/// The same by these callers.
+fn list_for(
+    name: &str,
+    mut bytes: Vec<u8>,
+    calls: impl IntoIterator<Item = (Caller, ListCall)>,
+) -> Vec<Case> {
     let mut cases = Vec::new();
-    for (number, (operation, grid, stated)) in calls.iter().enumerate() {
-        let buffers = Buffers::new(bytes, grid.clone());
-        let case = case(
-            format!("list/{name}/{number}"),
-            *operation,
-            buffers,
-            *stated,
-        );
+    for (number, (caller, (operation, grid, stated))) in calls.into_iter().enumerate() {
+        let buffers = Buffers::new(bytes, grid);
+        let name = format!("list/{name}/{number}");
+        let case = case_for(caller, name, operation, buffers, stated);
         bytes = case.after.bytes.clone();
         cases.push(case);
     }
@@ -533,4 +542,27 @@ fn marks_list() -> Vec<Case> {
         run(settings.with_edge(Edge::sticky(3)), 5, None),
     ];
     list_of("marks", pack_records(&apart()), &calls)
+}
+
+/// Both callers in turn, on grids that both may give and on larger ones.
+fn callers_list() -> Vec<Case> {
+    let settings = |nx, ny| Settings::new(Size::new(nx, ny), 150, 190);
+    let step = |s: Settings, stated| (Operation::Step(s), used_grid(s.size), stated);
+    let run = |s: Settings, steps, stated| (Operation::Run(s, steps), used_grid(s.size), stated);
+    let held = settings(9, 16).with_edge(Edge::sticky(2)).with_drag(40);
+    let calls = [
+        (Caller::Page, run(settings(16, 15), 4, None)),
+        (Caller::Bench, step(settings(16, 15), None)),
+        (Caller::Page, step(settings(17, 15), Some((2, 0)))),
+        (Caller::Bench, step(settings(17, 15), None)),
+        (Caller::Page, run(held, 3, None)),
+        (Caller::Page, run(held, 10_001, Some((17, 0)))),
+        (Caller::Bench, run(held.with_drag(256), 3, Some((19, 0)))),
+        (Caller::Page, step(held.with_edge(Edge::slip(3)), None)),
+        (Caller::Bench, run(settings(48, 47), 40, None)),
+        (Caller::Page, step(settings(16, 9), Some((7, 0)))),
+        (Caller::Page, run(settings(48, 47), 0, Some((2, 0)))),
+        (Caller::Bench, run(settings(47, 48), 3, None)),
+    ];
+    list_for("callers", marked_records(&near_each_other()), calls)
 }

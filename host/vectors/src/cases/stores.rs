@@ -5,10 +5,10 @@ use std::collections::BTreeMap;
 use reference::bath_file::pack_file;
 use reference::limits::{HEADER_LENGTH, MAX_FILE_LENGTH, NAME_LENGTH, RECORD_LENGTH};
 use reference::limits::{STORE_LENGTH, STORE_PLACE_LENGTH};
-use reference::{Edge, Header, Particle, Settings};
+use reference::{Caller, Edge, Header, Particle, Settings};
 
 use super::files::read_refusals;
-use super::{case, copies, lone, marked, SMALL};
+use super::{case, case_for, copies, lone, marked, SMALL};
 use crate::{Buffers, Case, Operation};
 
 pub fn cases() -> Vec<Case> {
@@ -20,6 +20,7 @@ pub fn cases() -> Vec<Case> {
         return_cases(),
         forget_cases(),
         list(),
+        callers_list(),
     ]
     .concat()
 }
@@ -364,11 +365,44 @@ fn forget_cases() -> Vec<Case> {
     cases
 }
 
-/// Float, return and float differently: each call gets the store that the one before left.
+/// A call of a list: who calls, the operation, its name and its file or buffer.
+type ListCall = (Caller, Operation, &'static [u8], Vec<u8>);
+
+fn keeping_for(caller: Caller, name: &'static [u8], count: u16) -> ListCall {
+    (caller, Operation::Keep, name, file(count))
+}
+
+fn keeping(name: &'static [u8], count: u16) -> ListCall {
+    keeping_for(Caller::Bench, name, count)
+}
+
+fn returning(name: &'static [u8]) -> ListCall {
+    let buffer = buffer(MAX_FILE_LENGTH);
+    (Caller::Bench, Operation::Return, name, buffer)
+}
+
+fn forgetting(name: &'static [u8]) -> ListCall {
+    (Caller::Bench, Operation::Forget, name, Vec::new())
+}
+
+/// Calls with their refusals, 0 for none; each gets the store that the one before left.
+fn list_of(list: &str, calls: impl IntoIterator<Item = (ListCall, u32)>) -> Vec<Case> {
+    let mut store = store(&[]);
+    let mut cases = Vec::new();
+    for (number, (call, refusal)) in calls.into_iter().enumerate() {
+        let (caller, operation, under, bytes) = call;
+        let stated = (refusal > 0).then_some((refusal, 0));
+        let buffers = Buffers::of_store(store, under, bytes);
+        let name = format!("list/{list}/{number}");
+        let case = case_for(caller, name, operation, buffers, stated);
+        store = case.after.store.clone();
+        cases.push(case);
+    }
+    cases
+}
+
+/// Float, return and float differently.
 fn list() -> Vec<Case> {
-    let keeping = |name: &'static [u8], count: u16| (Operation::Keep, name, file(count));
-    let returning = |name: &'static [u8]| (Operation::Return, name, buffer(MAX_FILE_LENGTH));
-    let forgetting = |name: &'static [u8]| (Operation::Forget, name, Vec::new());
     let calls = [
         (keeping(b"START", 3), 0),
         (keeping(b"CALM", 5), 0),
@@ -388,14 +422,25 @@ fn list() -> Vec<Case> {
         (returning(b"CALM"), 0),
         (keeping(b"START", 3), 24),
     ];
-    let mut store = store(&[]);
-    let mut cases = Vec::new();
-    for (number, ((operation, under, bytes), refusal)) in calls.into_iter().enumerate() {
-        let stated = (refusal > 0).then_some((refusal, 0));
-        let buffers = Buffers::of_store(store, under, bytes);
-        let case = case(format!("list/store/{number}"), operation, buffers, stated);
-        store = case.after.store.clone();
-        cases.push(case);
-    }
-    cases
+    list_of("store", calls)
+}
+
+/// Both callers in one store.
+fn callers_list() -> Vec<Case> {
+    let page = |name, count| keeping_for(Caller::Page, name, count);
+    let calls = [
+        (keeping(b"LARGE", 4096), 0),
+        (page(b"SMALL", 512), 0),
+        (page(b"LARGE", 513), 3),
+        (returning(b"LARGE"), 0),
+        (page(b"LARGE", 2), 0),
+        (returning(b"LARGE"), 0),
+        (keeping(b"SMALL", 513), 0),
+        (page(b"OTHER", 1), 0),
+        (returning(b"SMALL"), 0),
+        (forgetting(b"SMALL"), 0),
+        (page(b"SMALL", 0), 0),
+        (returning(b"SMALL"), 0),
+    ];
+    list_of("store-of-both", calls)
 }

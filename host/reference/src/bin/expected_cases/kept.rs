@@ -1,13 +1,14 @@
-//! What is kept from line to line: the bytes that hold records or a file, and the store.
+//! What is kept from line to line: who calls, the bytes that hold records or a file, and the store.
 
 use reference::limits::{MAX_SET_LENGTH, RECORD_LENGTH};
 use reference::limits::{NAME_LENGTH, STORE_LENGTH, STORE_PLACE_LENGTH};
-use reference::{read_record, Particle};
+use reference::{read_record, Caller, Particle};
 
 use crate::output::{bytes, numbers};
 
-/// The bytes and the store, and how much of each a call is lent.
+/// The caller, the bytes and the store, and how much of each a call is lent.
 pub struct Kept {
+    pub caller: Caller,
     room: Vec<u8>,
     end: usize,
     store: Vec<u8>,
@@ -18,6 +19,7 @@ impl Kept {
     /// Room for one record more than a set may have, and for one byte more than a store has.
     pub fn new() -> Self {
         Kept {
+            caller: Caller::Bench,
             room: vec![0; MAX_SET_LENGTH + RECORD_LENGTH],
             end: 0,
             store: vec![0; STORE_LENGTH + 1],

@@ -12,13 +12,16 @@ use input::{Line, List, Lists};
 use kept::{particle, Kept};
 use output::{answer, buffers, bytes, numbers, values};
 use reference::{
-    adding_scatter, check_set, forget, gather, keep, read_file, read_record, return_to, run,
-    scatter, step, totals, update, weights, write_header, write_record, Edge, Header, Settings,
-    Size,
+    adding_scatter_for, check_set_for, gather_for, keep_for, read_file_for, run_for, scatter_for,
+    step_for, totals_for, update_for,
 };
+use reference::{forget, read_record, return_to, weights, write_header, write_record};
+use reference::{Caller, Edge, Header, Settings, Size, Sums};
 
 /// So many bytes of a buffer are printed behind a return.
 const SHOWN: usize = 48;
+
+const SUMS: Sums = Sums::Literal;
 
 fn settings(numbers: &[i128]) -> Settings {
     let &[nx, ny, gx, gy, kind, width, drag] = numbers else {
@@ -31,19 +34,23 @@ fn settings(numbers: &[i128]) -> Settings {
 
 /// An operation on a record, a set or a file.
 fn on_bytes(line: &Line, kept: &mut Kept) -> Option<String> {
+    let caller = kept.caller;
     let lent = kept.lent();
     let shown = match (line.name, &line.numbers[..]) {
         ("weights", &[q]) => values('v', weights(q)),
         ("read", []) => values('r', read_record(lent).map(|p| p.fields())),
         ("check", &[nx, ny]) => {
-            let found = check_set(Size::new(nx, ny), lent);
+            let found = check_set_for(caller, Size::new(nx, ny), lent);
             values('n', found.map(|count| [count as i128]))
         }
         ("totals", &[nx, ny]) => {
-            let found = totals(Size::new(nx, ny), lent);
+            let found = totals_for(caller, Size::new(nx, ny), lent);
             values('v', found.map(|t| t.values()))
         }
-        ("file", []) => values('v', read_file(lent).map(|header| header.values())),
+        ("file", []) => values(
+            'v',
+            read_file_for(caller, lent).map(|header| header.values()),
+        ),
         ("write", fields) => answer(write_record(&particle(fields), lent)) + &kept.shown(),
         ("header", given) => {
             let header = Header::of(given.try_into().expect("nine values"));
@@ -56,17 +63,31 @@ fn on_bytes(line: &Line, kept: &mut Kept) -> Option<String> {
 
 /// An operation on a grid, whose lists are masses, x and y.
 fn on_grid(line: &Line, lists: &mut Lists, kept: &mut Kept) -> Option<String> {
+    let caller = kept.caller;
     let lent = kept.lent();
     let mut shown = match (line.name, &line.numbers[..]) {
-        ("scatter", &[nx, ny]) => answer(scatter(Size::new(nx, ny), lent, &mut lists.lent())),
-        ("adding", &[nx, ny]) => answer(adding_scatter(Size::new(nx, ny), lent, &mut lists.lent())),
-        ("update", given) => answer(update(settings(given), &mut lists.lent())),
+        ("scatter", &[nx, ny]) => {
+            let size = Size::new(nx, ny);
+            answer(scatter_for(caller, SUMS, size, lent, &mut lists.lent()))
+        }
+        ("adding", &[nx, ny]) => {
+            let size = Size::new(nx, ny);
+            answer(adding_scatter_for(
+                caller,
+                SUMS,
+                size,
+                lent,
+                &mut lists.lent(),
+            ))
+        }
+        ("update", given) => answer(update_for(caller, settings(given), &mut lists.lent())),
         ("step", given) => {
-            let answered = step(settings(given), lent, &mut lists.lent());
+            let answered = step_for(caller, SUMS, settings(given), lent, &mut lists.lent());
             answer(answered) + &kept.shown()
         }
         ("run", &[ref given @ .., steps]) => {
-            let ran = run(settings(given), steps, lent, &mut lists.lent());
+            let given = settings(given);
+            let ran = run_for(caller, SUMS, given, steps, lent, &mut lists.lent());
             let answered = ran.refusal.map_or(Ok(()), Err);
             answer(answered) + &kept.shown() + &numbers('n', &[ran.completed])
         }
@@ -81,15 +102,17 @@ fn on_velocities(line: &Line, x: &List<i64>, y: &List<i64>, kept: &mut Kept) -> 
     let ("gather", &[nx, ny]) = (line.name, &line.numbers[..]) else {
         return None;
     };
-    let gathered = gather(Size::new(nx, ny), kept.lent(), x.lent(), y.lent());
+    let (caller, size) = (kept.caller, Size::new(nx, ny));
+    let gathered = gather_for(caller, SUMS, size, kept.lent(), x.lent(), y.lent());
     Some(answer(gathered) + &kept.shown())
 }
 
 /// An operation on the store, whose list is a name.
 fn on_store(line: &Line, name: &[u8], kept: &mut Kept) -> Option<String> {
+    let caller = kept.caller;
     let (store, lent) = kept.lent_store();
     let shown = match (line.name, &line.numbers[..]) {
-        ("keep", []) => answer(keep(store, name, lent)),
+        ("keep", []) => answer(keep_for(caller, store, name, lent)),
         ("return", []) => {
             let found = return_to(store, name, lent).map(|length| [length as i128]);
             values('n', found) + &bytes(&lent[..lent.len().min(SHOWN)])
@@ -132,6 +155,8 @@ fn main() -> io::Result<()> {
             ("store", &[length, at, byte]) => {
                 kept.set(length as usize, at as usize, byte as u8);
             }
+            ("page", []) => kept.caller = Caller::Page,
+            ("bench", []) => kept.caller = Caller::Bench,
             _ => match called(&line, &mut kept) {
                 Some(shown) => print!("{shown}"),
                 None => panic!("no such line: {text}"),
