@@ -13,8 +13,8 @@ use Rattle.settings.specs.declared.Settings.{Settings}
 use Rattle.apic.specs.Step.{Grids}
 use Rattle.simulation.specs.Step.{stepEntry, stepAfter}
 
--- three calls of one caller, what each answers and what it leaves: the records are scattered into the lent grids, the momenta there become
--- velocities, and the same records gather from those
+-- three calls of one caller, what each answers and what it leaves: the records are scattered into the lent grids, the momenta there
+-- become velocities, and the same records gather from those
 pub record ThreeCalls (caller : Caller) (s : Settings) (records : List ℕ) (lent : Grids) : Type 0 where
   pub scattered : Answer Unit
   pub mass : List ℕ

@@ -182,14 +182,14 @@ refused-set caller nx ny bytes {n} {k} e = size (validSize (mostSideOf caller) n
         room : recordLength * (length bytes / recordLength) ≡ length bytes → 0 + recordLength * (length bytes / recordLength) ≤ length bytes
         room g = omega arith
 
-    few : validLength (length bytes) ≡ true → (b : Bool) → tooMany caller (length bytes) ≡ b → refuseIf b 3 0 walk ≡ refused n k → Refuses caller nx ny bytes n k
-    few h true g e = inr (inr (inl (sym (same-number e), same-place e, ltb-true (mostRecordsOf caller) (recordCount bytes) g)))
-    few h false g e = inr (inr (inr (refused-means nx ny 0 bytes (recordCount bytes) n k (all h) e)))
+    few : validSize (mostSideOf caller) nx ny ≡ true → validLength (length bytes) ≡ true → (b : Bool) → tooMany caller (length bytes) ≡ b → refuseIf b 3 0 walk ≡ refused n k → Refuses caller nx ny bytes n k
+    few s h true g e = inr (inr (inl (sym (same-number e), same-place e, s, h, ltb-true (mostRecordsOf caller) (recordCount bytes) g)))
+    few s h false g e = inr (inr (inr (refused-means nx ny 0 bytes (recordCount bytes) n k (all h) e)))
 
-    whole : (b : Bool) → validLength (length bytes) ≡ b → refuseIf (not b) 1 0 (refuseIf (tooMany caller (length bytes)) 3 0 walk) ≡ refused n k → Refuses caller nx ny bytes n k
-    whole false g e = inr (inl (sym (same-number e), same-place e, g))
-    whole true g e = few g (tooMany caller (length bytes)) refl e
+    whole : validSize (mostSideOf caller) nx ny ≡ true → (b : Bool) → validLength (length bytes) ≡ b → refuseIf (not b) 1 0 (refuseIf (tooMany caller (length bytes)) 3 0 walk) ≡ refused n k → Refuses caller nx ny bytes n k
+    whole s false g e = inr (inl (sym (same-number e), same-place e, s, g))
+    whole s true g e = few s g (tooMany caller (length bytes)) refl e
 
     size : (b : Bool) → validSize (mostSideOf caller) nx ny ≡ b → refuseIf (not b) 2 0 (refuseIf (not (validLength (length bytes))) 1 0 (refuseIf (tooMany caller (length bytes)) 3 0 walk)) ≡ refused n k → Refuses caller nx ny bytes n k
     size false g e = inl (sym (same-number e), same-place e, g)
-    size true g e = whole (validLength (length bytes)) refl e
+    size true g e = whole g (validLength (length bytes)) refl e

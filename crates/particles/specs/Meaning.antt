@@ -44,9 +44,12 @@ pub record Broken (nx ny start : ℕ) (bytes : List ℕ) (count n k : ℕ) : Typ
   pub set : setOf nx ny start bytes k ≡ result before
   pub first : FirstBroken n (limitsOn nx ny (leastAfter 0 before) (totalMass before) (particleOf (recordAt start bytes k)))
 
--- what a refused call tells: 2 the sizes, 1 the length, 3 the number of records, each at place 0; or a limit of record k
+-- what a refused call tells: 2 the sizes, then 1 the length, then 3 the number of records, each at place 0; or a limit of record k
 abbrev pub Refuses : Caller → ℕ → ℕ → List ℕ → ℕ → ℕ → Type 0
 Refuses caller nx ny bytes n k =
-    ((n ≡ 2) × (k ≡ 0) × (validSize (mostSideOf caller) nx ny ≡ false))
-    ⊎ (((n ≡ 1) × (k ≡ 0) × (validLength (length bytes) ≡ false))
-    ⊎ (((n ≡ 3) × (k ≡ 0) × (mostRecordsOf caller < recordCount bytes)) ⊎ Broken nx ny 0 bytes (recordCount bytes) n k))
+    let size = validSize (mostSideOf caller) nx ny in
+    let whole = validLength (length bytes) in
+    ((n ≡ 2) × (k ≡ 0) × (size ≡ false))
+    ⊎ (((n ≡ 1) × (k ≡ 0) × (size ≡ true) × (whole ≡ false))
+    ⊎ (((n ≡ 3) × (k ≡ 0) × (size ≡ true) × (whole ≡ true) × (mostRecordsOf caller < recordCount bytes))
+    ⊎ Broken nx ny 0 bytes (recordCount bytes) n k))

@@ -1,7 +1,7 @@
 -- The starred examples of documents 01 and 02, one row each: what the operations' definitions answer, and what they must. A row is
--- the bench's answer with numbers: the three weights of Weights; the number of records of Check a set; of Step the particles in the records
--- that it leaves, their identifier, nine numbers and marks each, or the node velocities that it leaves on the x axis. The grid has
--- 4 by 5 nodes, and what the example leaves open differs on the two axes. Assumes nothing.
+-- the bench's answer with numbers: the three weights of Weights; the number of records of Check a set; of Step the particles in the
+-- records that it leaves, their identifier, nine numbers and marks each, or the node velocities that it leaves on the x axis. The
+-- grid has 4 by 5 nodes, and what the example leaves open differs on the two axes. Assumes nothing.
 use mathlib.Core.Path.{_≡_}
 use mathlib.Core.List.{List, [], _∷_, _++_, map}
 use Prim.Native.Nat.{ℕ, _+_}
