@@ -5,10 +5,10 @@
  *
  * Slices. A slice is a pointer and its number of elements. The pointer is aligned for its type and
  * leads to as many initialised elements as the number says; where the number is 0 nothing is read or
- * written through it, and it may be NULL. An array parameter, `values[11]` and `totals[6]`, and a
- * pointer to one number, `count`, `completed` and `length`, are never NULL. What a function writes to
- * overlaps nothing else of the call. Nothing is kept after a call, and no function has any state, so
- * calls may run at the same time on memory of their own.
+ * written through it, and it may be NULL. An array parameter, `values[11]`, and a pointer to one
+ * number, `count`, `completed` and `length`, are never NULL. What a function writes to overlaps nothing
+ * else of the call. Nothing is kept after a call, and no function has any state, so calls may run at
+ * the same time on memory of their own.
  *
  * Answers. Every function answers one number:
  *     0                        there is a result
@@ -20,46 +20,34 @@
  * is refused and never cut where a limit is listed for it; a record's identifier and its marks have no
  * limit, and are numbers of 16 and of 8 bits.
  *
- * Running totals. gondwize_read_file, gondwize_return, gondwize_gather, gondwize_step and gondwize_run
- * are lent `totals`, six numbers that are stored beside the records, in the order of gondwize_totals, and
- * bring them up to date. They then are:
- *     a read or return         the sums over the file's records, whatever they were
- *     a gather, step or run    each changed by exactly as much as the sum over the records
- *     a run that is stopped    the same, over its completed steps
- *     another refused call     as they were
- * So totals that are the sums over the records before a call are so after it, whatever it answers, and
- * are never refused. A gather, step or run is refused with 25, as the last of its checks at entry, before
- * 13, 14 and 15, where a total is not -2^43 to 2^43, or for mass, motion and marks 0 to 2^43; a run does
- * not look again between its steps. A read or return never looks.
- *
  * Stack. The most that a call needs, from its caller's frame down, by the number of its particles, in
  * kB of 1,000 bytes. A call that takes no set stands under 0; one that ends with 13, 14, 15, 20 or 21
  * counts by its particles and not as refused. A keep, a return and a forget count by the particles of
- * their bath, whatever else the store holds. The lesson page's run and step need at most 23.8 kB, where the
- * bench's need up to 152.8: 129.0 kB less. Its other calls need what those without page_ do.
+ * their bath, whatever else the store holds. The lesson page's run and step need at most 23.0 kB, where the
+ * bench's need up to 152.1: 129.1 kB less. Its other calls need what those without page_ do.
  *
  *     kB                        refused        0        1    to 64   to 512 to 4,096
- *     gondwize_run                  3.5      4.8      4.8      4.8     23.7    152.7
- *     gondwize_run, no step         3.5      4.8      4.8      4.8     23.7    152.7
- *     gondwize_step                 3.6      4.9      4.9      4.9     23.8    152.8
- *     gondwize_page_run             3.5      4.8      4.8      4.8     23.7
- *     .. no step                    3.5      4.8      4.8      4.8     23.7
- *     gondwize_page_step            3.6      4.9      4.9      4.9     23.8
+ *     gondwize_run                  3.2      4.3      4.3      4.3     23.0    152.1
+ *     gondwize_run, no step         3.2      4.3      4.3      4.3     23.0    152.1
+ *     gondwize_step                 3.2      4.3      4.3      4.3     23.0    152.1
+ *     gondwize_page_run             3.2      4.3      4.3      4.3     23.0
+ *     .. no step                    3.2      4.3      4.3      4.3     23.0
+ *     gondwize_page_step            3.2      4.3      4.3      4.3     23.0
  *     gondwize_scatter              0.5      2.6      2.6      2.6      2.6      2.6
  *     gondwize_adding_scatter       8.3     67.6     67.6     67.6     67.6     67.6
  *     .. to 320 nodes               8.3     10.5     10.5     10.5     10.5     10.5
  *     gondwize_update               0.4      0.5
- *     gondwize_gather               1.9      4.4      4.4      4.4     78.4     78.4
+ *     gondwize_gather               1.7      4.0      4.0      4.0     77.9     77.9
  *     gondwize_check_set            0.5      0.5      0.5      0.5      0.5      0.5
- *     gondwize_totals               0.4      0.4      0.4      0.4      0.4      0.4
+ *     gondwize_totals               0.3      0.3      0.3      0.3      0.3      0.3
  *     gondwize_weights              0.2      0.2
  *     gondwize_read_record          0.2      0.2
  *     gondwize_write_record         0.2      0.2
  *     gondwize_read_file            0.5      0.5      0.5      0.5      0.5      0.5
  *     gondwize_write_header         0.2      0.2
- *     gondwize_keep                 0.6      0.6      0.6      0.6      0.6      0.6
- *     gondwize_return               0.5      0.5      0.5      0.5      0.5      0.5
- *     gondwize_forget               0.4      0.4      0.4      0.4      0.4      0.4
+ *     gondwize_keep                 0.8      0.8      0.8      0.8      0.8      0.8
+ *     gondwize_return               0.6      0.6      0.6      0.6      0.6      0.6
+ *     gondwize_forget               0.6      0.6      0.6      0.6      0.6      0.6
  */
 #ifndef GONDWIZE_H
 #define GONDWIZE_H
@@ -67,9 +55,9 @@
 #include <stddef.h>
 #include <stdint.h>
 
-#define GONDWIZE_VERSION "6.0.0"
-#define GONDWIZE_VERSION_MAJOR 6
-#define GONDWIZE_VERSION_MINOR 0
+#define GONDWIZE_VERSION "5.2.0"
+#define GONDWIZE_VERSION_MAJOR 5
+#define GONDWIZE_VERSION_MINOR 2
 #define GONDWIZE_VERSION_PATCH 0
 
 /* An answer that must be looked at, and an array of at least so many elements. */
@@ -105,7 +93,7 @@
 #define GONDWIZE_STORE_PLACE_LENGTH (GONDWIZE_NAME_LENGTH + GONDWIZE_MOST_FILE_LENGTH)
 #define GONDWIZE_STORE_LENGTH (GONDWIZE_STORE_PLACES * GONDWIZE_STORE_PLACE_LENGTH)
 
-/* How many values a function hands back; of totals as many are lent. */
+/* How many values a function hands back. */
 #define GONDWIZE_PARTICLE_VALUES 11
 #define GONDWIZE_TOTALS_VALUES 6
 #define GONDWIZE_WEIGHTS_VALUES 3
@@ -136,9 +124,6 @@
 #define GONDWIZE_MOST_NODE_MASS (UINT64_C(1) << 43)
 #define GONDWIZE_MOST_PRESENT_MOMENTUM 457536
 #define GONDWIZE_MOST_NODE_VELOCITY 131072
-
-/* A stored total lies between this number and its negative; mass, motion and marks are not negative. */
-#define GONDWIZE_MOST_STORED_TOTAL (INT64_C(1) << 43)
 
 /*
  * The kinds of edge. An open edge has width 0; the others have a band, the outermost columns and rows
@@ -192,8 +177,7 @@
     X(21, ADDED_MASS, "a node's mass would pass 2^43") \
     X(22, NAME, "a name is not 1 to 8 letters A to Z") \
     X(23, NOT_HELD, "the name is not held") \
-    X(24, FULL_STORE, "four other names are held") \
-    X(25, STORED_TOTAL, "a stored total is not -2^43 to 2^43, or for mass, motion and marks 0 to 2^43")
+    X(24, FULL_STORE, "four other names are held")
 
 /* GONDWIZE_REFUSED_LENGTH = 1 and so on. */
 #define GONDWIZE_REFUSAL_CONSTANT(number, name, text) GONDWIZE_REFUSED_##name = number,
@@ -319,34 +303,32 @@ GONDWIZE_MUST_USE uint64_t gondwize_update(size_t nx, size_t ny, int64_t gx, int
 /*
  * Grid-to-particle transfer from node velocities: the records then hold the moved particles, their
  * velocities and B rounded.
- * Refused: 2; 1, also for the velocity buffers; the set; 12 for each node; 25; then for each record 13,
- * 14, 15. No record moves if any is refused, and no total changes.
+ * Refused: 2; 1, also for the velocity buffers; the set; 12 for each node; then for each record 13,
+ * 14, 15. No record moves if any is refused.
  */
 GONDWIZE_MUST_USE uint64_t gondwize_gather(size_t nx, size_t ny,
                                            uint8_t *records, size_t records_length,
                                            const int64_t *ux, size_t ux_length,
-                                           const int64_t *uy, size_t uy_length,
-                                           int64_t totals[GONDWIZE_AT_LEAST(6)]);
+                                           const int64_t *uy, size_t uy_length);
 
 /*
  * One step: scatter, update, gather.
- * Refused: 2; 1, also for the grid buffers; 10; 18; 19; the set; 25; then for each record 13, 14, 15,
- * where records and totals are as they were and the grids hold masses and updated velocities.
+ * Refused: 2; 1, also for the grid buffers; 10; 18; 19; the set; then for each record 13, 14, 15,
+ * where the records are as they were and the grids hold masses and updated velocities.
  */
 GONDWIZE_MUST_USE uint64_t gondwize_step(size_t nx, size_t ny, int64_t gx, int64_t gy,
                                          size_t kind, size_t width, size_t drag,
                                          uint8_t *records, size_t records_length,
                                          uint64_t *mass, size_t mass_length,
                                          int64_t *px, size_t px_length,
-                                         int64_t *py, size_t py_length,
-                                         int64_t totals[GONDWIZE_AT_LEAST(6)]);
+                                         int64_t *py, size_t py_length);
 
 /*
  * The step repeated, as often as wanted or until one is refused. `completed`: the number of
  * completed steps, also where the run is refused. The records are those of the last completed step,
- * the totals have changed with them, the grids hold masses and updated velocities of the last step
- * tried; an accepted run of 0 steps touches none of them.
- * Refused: 2; 1, also for the grid buffers; 10; 18; 19; 17; the set; 25; then 13, 14, 15 by the step
+ * the grids hold masses and updated velocities of the last step tried; an accepted run of 0 steps
+ * touches neither.
+ * Refused: 2; 1, also for the grid buffers; 10; 18; 19; 17; the set; then 13, 14, 15 by the step
  * that stopped it.
  */
 GONDWIZE_MUST_USE uint64_t gondwize_run(size_t nx, size_t ny, int64_t gx, int64_t gy,
@@ -354,19 +336,17 @@ GONDWIZE_MUST_USE uint64_t gondwize_run(size_t nx, size_t ny, int64_t gx, int64_
                                         uint8_t *records, size_t records_length,
                                         uint64_t *mass, size_t mass_length,
                                         int64_t *px, size_t px_length,
-                                        int64_t *py, size_t py_length, uint64_t *completed,
-                                        int64_t totals[GONDWIZE_AT_LEAST(6)]);
+                                        int64_t *py, size_t py_length, uint64_t *completed);
 
 /* ---- Files. */
 
 /*
  * Reads a bath file, whose records lie from byte 11 on. `values`: nx, ny, gx, gy, count, steps, kind,
- * width, drag. `totals`: the sums over the records.
+ * width, drag.
  * Refused: 1 shorter than 11; 2; 10; 18; 3; 17; 16; 1 length not 11 + 15 * count; then the set.
  */
 GONDWIZE_MUST_USE uint64_t gondwize_read_file(const uint8_t *bytes, size_t bytes_length,
-                                              int64_t values[GONDWIZE_AT_LEAST(9)],
-                                              int64_t totals[GONDWIZE_AT_LEAST(6)]);
+                                              int64_t values[GONDWIZE_AT_LEAST(9)]);
 
 /*
  * Writes a bath file's header into `bytes`, spare bits zero.
@@ -401,13 +381,12 @@ GONDWIZE_MUST_USE uint64_t gondwize_keep(uint8_t *store, size_t store_length,
 /*
  * Returns to the bath that is held under a name: its file stands at the front of `buffer`, the rest of
  * which stays as it is. `length`: that of the file. So gondwize_read_file takes `buffer` with `length`,
- * and the records are what is behind the first 11 bytes. `totals`: the sums over them.
+ * and the records are what is behind the first 11 bytes.
  * Refused: 1 the store; 1 `buffer_length` below 61,451; 22; 23.
  */
 GONDWIZE_MUST_USE uint64_t gondwize_return(const uint8_t *store, size_t store_length,
                                            const uint8_t *name, size_t name_length,
-                                           uint8_t *buffer, size_t buffer_length, uint64_t *length,
-                                           int64_t totals[GONDWIZE_AT_LEAST(6)]);
+                                           uint8_t *buffer, size_t buffer_length, uint64_t *length);
 
 /*
  * Forgets the bath that is held under a name: every byte of its place is zero.
@@ -458,28 +437,24 @@ GONDWIZE_MUST_USE uint64_t gondwize_page_update(size_t nx, size_t ny, int64_t gx
 GONDWIZE_MUST_USE uint64_t gondwize_page_gather(size_t nx, size_t ny,
                                                 uint8_t *records, size_t records_length,
                                                 const int64_t *ux, size_t ux_length,
-                                                const int64_t *uy, size_t uy_length,
-                                                int64_t totals[GONDWIZE_AT_LEAST(6)]);
+                                                const int64_t *uy, size_t uy_length);
 
 GONDWIZE_MUST_USE uint64_t gondwize_page_step(size_t nx, size_t ny, int64_t gx, int64_t gy,
                                               size_t kind, size_t width, size_t drag,
                                               uint8_t *records, size_t records_length,
                                               uint64_t *mass, size_t mass_length,
                                               int64_t *px, size_t px_length,
-                                              int64_t *py, size_t py_length,
-                                              int64_t totals[GONDWIZE_AT_LEAST(6)]);
+                                              int64_t *py, size_t py_length);
 
 GONDWIZE_MUST_USE uint64_t gondwize_page_run(size_t nx, size_t ny, int64_t gx, int64_t gy,
                                              size_t kind, size_t width, size_t drag, size_t steps,
                                              uint8_t *records, size_t records_length,
                                              uint64_t *mass, size_t mass_length,
                                              int64_t *px, size_t px_length,
-                                             int64_t *py, size_t py_length, uint64_t *completed,
-                                             int64_t totals[GONDWIZE_AT_LEAST(6)]);
+                                             int64_t *py, size_t py_length, uint64_t *completed);
 
 GONDWIZE_MUST_USE uint64_t gondwize_page_read_file(const uint8_t *bytes, size_t bytes_length,
-                                                   int64_t values[GONDWIZE_AT_LEAST(9)],
-                                                   int64_t totals[GONDWIZE_AT_LEAST(6)]);
+                                                   int64_t values[GONDWIZE_AT_LEAST(9)]);
 
 GONDWIZE_MUST_USE uint64_t gondwize_page_keep(uint8_t *store, size_t store_length,
                                               const uint8_t *name, size_t name_length,

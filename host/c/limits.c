@@ -4,9 +4,8 @@
  * is added to and of an offset at their edge and one beyond, what drag and edges leave of a node's
  * velocity, sets that are added in parts, every number of marks, and that calls leave them, totals,
  * refusals by name and by text, empty slices, a file that is written and read back, names and stores at
- * their edges, a store of four of the largest baths, the lesson page's limits in each of its calls, beside
- * the bench's, and running totals, which calls of both set, change with the records, leave or refuse. Exits
- * with 1 where something differs, and says where.
+ * their edges, a store of four of the largest baths, and the lesson page's limits in each of its calls,
+ * beside the bench's. Exits with 1 where something differs, and says where.
  */
 #include <inttypes.h>
 #include <stdio.h>
@@ -27,25 +26,6 @@ static void same(const char *what, uint64_t got, uint64_t want)
 static uint64_t refused(enum gondwize_refusal number, uint64_t place)
 {
     return ((uint64_t)number << 32) + place;
-}
-
-/* ---- Running totals that a call is lent. */
-
-enum { LENT_SIZE = GONDWIZE_TOTALS_VALUES * sizeof(int64_t) };
-
-/* Accepted, and those of no set here. */
-static const int64_t some_totals[GONDWIZE_TOTALS_VALUES] = {9, -8, 7, -6, 5, 4};
-static int64_t lent[GONDWIZE_TOTALS_VALUES];
-
-static int64_t *lend(const int64_t *totals)
-{
-    memcpy(lent, totals, LENT_SIZE);
-    return lent;
-}
-
-static void same_lent(const char *what, const int64_t *want)
-{
-    same(what, (uint64_t)memcmp(lent, want, LENT_SIZE), 0);
 }
 
 /* ---- A record of wide numbers. */
@@ -156,10 +136,8 @@ static uint64_t header_written(const char *what, const struct header *h)
         const int64_t want[GONDWIZE_HEADER_VALUES] = {
             (int64_t)h->nx, (int64_t)h->ny, h->gx, h->gy, (int64_t)h->count,
             (int64_t)h->steps, (int64_t)h->kind, (int64_t)h->width, (int64_t)h->drag};
-        const int64_t none[GONDWIZE_TOTALS_VALUES] = {0, 0, 0, 0, 0, 0};
-        same(what, gondwize_read_file(bytes, sizeof bytes, values, lend(some_totals)), 0);
+        same(what, gondwize_read_file(bytes, sizeof bytes, values), 0);
         same(what, (uint64_t)memcmp(values, want, sizeof values), 0);
-        same_lent(what, none);
     }
     return answer;
 }
@@ -220,11 +198,10 @@ static void run_answers(size_t nx, size_t ny, int64_t gx, int64_t gy, size_t kin
     same("update", gondwize_update(nx, ny, gx, gy, kind, width, drag, mass, nodes, px, nodes, py, nodes),
          alone);
     same("step", gondwize_step(nx, ny, gx, gy, kind, width, drag, NULL, 0, mass, nodes, px, nodes, py,
-                               nodes, lend(some_totals)), alone);
+                               nodes), alone);
     same("run", gondwize_run(nx, ny, gx, gy, kind, width, drag, steps, NULL, 0, mass, nodes, px, nodes,
-                             py, nodes, &completed, lent), want);
+                             py, nodes, &completed), want);
     same("run's completed", completed, want == 0 ? steps : 0);
-    same_lent("totals of no record", some_totals);
 }
 
 /* With open edges and no drag. */
@@ -590,27 +567,25 @@ static void empty_slices(void)
     same("update's mass", gondwize_update(4, 4, 0, 0, 0, 0, 0, NULL, 0, x, 16, y, 16), length);
     same("update's px", gondwize_update(4, 4, 0, 0, 0, 0, 0, mass, 16, NULL, 0, y, 16), length);
     same("update's py", gondwize_update(4, 4, 0, 0, 0, 0, 0, mass, 16, x, 16, NULL, 0), length);
-    int64_t *t = lend(some_totals);
-    same("gather", gondwize_gather(4, 4, NULL, 0, x, 16, y, 16, t), 0);
-    same("gather's ux", gondwize_gather(4, 4, NULL, 0, NULL, 0, y, 16, t), length);
-    same("gather's uy", gondwize_gather(4, 4, NULL, 0, x, 16, NULL, 0, t), length);
-    same("step", gondwize_step(4, 4, 1, 1, 0, 0, 0, NULL, 0, mass, 16, x, 16, y, 16, t), 0);
-    same("step's mass", gondwize_step(4, 4, 1, 1, 0, 0, 0, NULL, 0, NULL, 0, x, 16, y, 16, t), length);
-    same("step's px", gondwize_step(4, 4, 1, 1, 0, 0, 0, NULL, 0, mass, 16, NULL, 0, y, 16, t), length);
-    same("step's py", gondwize_step(4, 4, 1, 1, 0, 0, 0, NULL, 0, mass, 16, x, 16, NULL, 0, t), length);
-    same("run", gondwize_run(4, 4, 1, 1, 0, 0, 0, 3, NULL, 0, mass, 16, x, 16, y, 16, &number, t), 0);
+    same("gather", gondwize_gather(4, 4, NULL, 0, x, 16, y, 16), 0);
+    same("gather's ux", gondwize_gather(4, 4, NULL, 0, NULL, 0, y, 16), length);
+    same("gather's uy", gondwize_gather(4, 4, NULL, 0, x, 16, NULL, 0), length);
+    same("step", gondwize_step(4, 4, 1, 1, 0, 0, 0, NULL, 0, mass, 16, x, 16, y, 16), 0);
+    same("step's mass", gondwize_step(4, 4, 1, 1, 0, 0, 0, NULL, 0, NULL, 0, x, 16, y, 16), length);
+    same("step's px", gondwize_step(4, 4, 1, 1, 0, 0, 0, NULL, 0, mass, 16, NULL, 0, y, 16), length);
+    same("step's py", gondwize_step(4, 4, 1, 1, 0, 0, 0, NULL, 0, mass, 16, x, 16, NULL, 0), length);
+    same("run", gondwize_run(4, 4, 1, 1, 0, 0, 0, 3, NULL, 0, mass, 16, x, 16, y, 16, &number), 0);
     same("run's completed", number, 3);
-    same("run's slices", gondwize_run(4, 4, 1, 1, 0, 0, 0, 3, NULL, 0, NULL, 0, NULL, 0, NULL, 0, &number, t),
+    same("run's slices", gondwize_run(4, 4, 1, 1, 0, 0, 0, 3, NULL, 0, NULL, 0, NULL, 0, NULL, 0, &number),
          length);
     same("a refused run's completed", number, 0);
-    same("read_file", gondwize_read_file(NULL, 0, values, t), length);
+    same("read_file", gondwize_read_file(NULL, 0, values), length);
     same("write_header", gondwize_write_header(4, 4, 0, 0, 0, 0, 0, 0, 0, NULL, 0), length);
     number = 9;
     same("keep's store", gondwize_keep(NULL, 0, NULL, 0, NULL, 0), length);
-    same("return's store", gondwize_return(NULL, 0, NULL, 0, NULL, 0, &number, t), length);
+    same("return's store", gondwize_return(NULL, 0, NULL, 0, NULL, 0, &number), length);
     same("forget's store", gondwize_forget(NULL, 0, NULL, 0), length);
     same("a refused return's length", number, 9);
-    same_lent("totals of empty slices", some_totals);
 }
 
 /* ---- Answers and their texts. */
@@ -623,10 +598,10 @@ static void answers(void)
     GONDWIZE_REFUSALS(CHECKED)
 #undef CHECKED
     same("text of 0", (uint64_t)strcmp(gondwize_refusal_text(0), "not refused"), 0);
-    same("text of 26", (uint64_t)strcmp(gondwize_refusal_text(26), "unknown refusal"), 0);
+    same("text of 25", (uint64_t)strcmp(gondwize_refusal_text(25), "unknown refusal"), 0);
     same("number of an answer", GONDWIZE_NUMBER(UINT64_C(7) << 32 | 70000), 7);
     same("place of an answer", GONDWIZE_PLACE(UINT64_C(7) << 32 | 70000), 70000);
-    same("version", (uint64_t)strcmp(GONDWIZE_VERSION, "6.0.0"), 0);
+    same("version", (uint64_t)strcmp(GONDWIZE_VERSION, "5.2.0"), 0);
     same("length of a file", GONDWIZE_FILE_LENGTH(3), 56);
     same("length of the longest file", GONDWIZE_FILE_LENGTH(GONDWIZE_MOST_RECORDS), GONDWIZE_MOST_FILE_LENGTH);
     same("length of the longest set", GONDWIZE_MOST_SET_LENGTH, 61440);
@@ -636,10 +611,7 @@ static void answers(void)
     same("length of the page's longest file", GONDWIZE_PAGE_MOST_FILE_LENGTH, 7691);
 }
 
-/*
- * ---- Marks: every number of them, and those of three records, which gather, step and run leave, with running
- * totals, which stay true.
- */
+/* ---- Marks: every number of them, and those of three records, which gather, step and run leave. */
 
 static void each_number_of_marks(void)
 {
@@ -667,7 +639,6 @@ static void same_marks(const char *what, const uint8_t *records)
     }
     same(what, gondwize_totals(MARKED_NX, MARKED_NY, records, MARKED_LENGTH, values), 0);
     same(what, (uint64_t)values[GONDWIZE_TOTALS_VALUES - 1], 255 + 0 + 130);
-    same_lent(what, values);
 }
 
 static uint64_t marked_run(const char *what, uint8_t *records, int64_t gx, int64_t gy, size_t steps)
@@ -675,7 +646,7 @@ static uint64_t marked_run(const char *what, uint8_t *records, int64_t gx, int64
     uint64_t completed = 9;
     const uint64_t answer = gondwize_run(MARKED_NX, MARKED_NY, gx, gy, GONDWIZE_EDGE_SLIP, 1, 3, steps,
                                          records, MARKED_LENGTH, mass, MARKED_NODES, px, MARKED_NODES,
-                                         py, MARKED_NODES, &completed, lent);
+                                         py, MARKED_NODES, &completed);
     same(what, completed == steps, answer == 0);
     same_marks(what, records);
     return GONDWIZE_NUMBER(answer);
@@ -690,17 +661,16 @@ static void marks_left(void)
                                                           140 - 9u * k, 5 - k, k - 3, 20, -300, 11 * k, 7,
                                                           marked_with[k], records + k * GONDWIZE_RECORD_LENGTH,
                                                           GONDWIZE_RECORD_LENGTH), 0);
-    same("totals with marks", gondwize_totals(MARKED_NX, MARKED_NY, records, sizeof records, lent), 0);
     same_marks("marks as written", records);
     same("a step with marks", gondwize_step(MARKED_NX, MARKED_NY, 9, -30, GONDWIZE_EDGE_OPEN, 0, 0, records,
-                                            sizeof records, mass, nodes, px, nodes, py, nodes, lent), 0);
+                                            sizeof records, mass, nodes, px, nodes, py, nodes), 0);
     same_marks("marks after a step", records);
     same("a gather with marks", gondwize_gather(MARKED_NX, MARKED_NY, records, sizeof records, px, nodes, py,
-                                                nodes, lent), 0);
+                                                nodes), 0);
     same_marks("marks after a gather", records);
     px[0] = INT64_MAX;
     same("a refused gather", gondwize_gather(MARKED_NX, MARKED_NY, records, sizeof records, px, nodes, py,
-                                             nodes, lent), refused(GONDWIZE_REFUSED_NODE_VELOCITY, 0));
+                                             nodes), refused(GONDWIZE_REFUSED_NODE_VELOCITY, 0));
     same_marks("marks after a refused gather", records);
     same("a run", marked_run("marks after a run", records, 9, -30, 4), 0);
     same("a refused run", marked_run("marks after a refused run", records, 9, -4097, 4),
@@ -747,23 +717,20 @@ static void files(void)
         same("record", gondwize_write_record(k, 5, last, GONDWIZE_FIRST_PLACE, 0, 0, 0, 0, 0, 0, 200, at,
                                              GONDWIZE_RECORD_LENGTH), 0);
     }
-    const int64_t sums[GONDWIZE_TOTALS_VALUES] = {COUNT * 5, 0, 0, 0, 0, COUNT * 200};
-    same("file", gondwize_read_file(file, sizeof file, values, lend(some_totals)), 0);
+    same("file", gondwize_read_file(file, sizeof file, values), 0);
     same("file's values", (uint64_t)memcmp(values, want, sizeof values), 0);
-    same_lent("file's totals", sums);
     same("file's records", gondwize_check_set(NX, NY, file + GONDWIZE_HEADER_LENGTH,
                                               sizeof file - GONDWIZE_HEADER_LENGTH, &number), 0);
     same("file's count", number, COUNT);
-    same("a byte less for each record", gondwize_read_file(file, sizeof file - COUNT, values, lend(some_totals)),
+    same("a byte less for each record", gondwize_read_file(file, sizeof file - COUNT, values),
          refused(GONDWIZE_REFUSED_LENGTH, 0));
     same("last record", gondwize_write_record(COUNT, 5, last + 1, GONDWIZE_FIRST_PLACE, 0, 0, 0, 0, 0, 0, 9,
                                               file + GONDWIZE_FILE_LENGTH(COUNT - 1),
                                               GONDWIZE_RECORD_LENGTH), 0);
-    uint64_t answer = gondwize_read_file(file, sizeof file, values, lent);
+    uint64_t answer = gondwize_read_file(file, sizeof file, values);
     same("file's refusal", GONDWIZE_NUMBER(answer), GONDWIZE_REFUSED_POSITION);
     same("its record", GONDWIZE_PLACE(answer), COUNT - 1);
     same("its values", (uint64_t)memcmp(values, want, sizeof values), 0);
-    same_lent("its totals", some_totals);
 }
 
 /* ---- Stores. */
@@ -802,16 +769,13 @@ static void put_bath(size_t records, int64_t gx)
     put_bath_on(48, 48, records, gx);
 }
 
-/* A return answers so; what it writes is the bath in `kept` and its totals, and a refused one writes nothing. */
+/* A return answers so; what it writes is the bath in `kept`, and a refused one writes nothing. */
 static void return_answers(const char *what, const char *name, size_t room, size_t records, uint64_t want)
 {
     uint64_t length = 9;
-    int64_t values[GONDWIZE_HEADER_VALUES], sums[GONDWIZE_TOTALS_VALUES];
     memset(buffer, PATTERN, sizeof buffer);
     same(what, gondwize_return(store, GONDWIZE_STORE_LENGTH, (const uint8_t *)name, strlen(name), buffer, room,
-                               &length, lend(some_totals)), want);
-    same(what, gondwize_read_file(kept, GONDWIZE_FILE_LENGTH(records), values, sums), 0);
-    same_lent(what, want == 0 ? sums : some_totals);
+                               &length), want);
     const size_t written = want == 0 ? GONDWIZE_FILE_LENGTH(records) : 0;
     same(what, length, want == 0 ? written : 9);
     same(what, (uint64_t)memcmp(buffer, kept, written), 0);
@@ -828,8 +792,7 @@ static void stores_answer(const char *what, size_t room, const char *bytes, size
     memcpy(store_before, store, sizeof store);
     memset(buffer, PATTERN, sizeof buffer);
     same(what, gondwize_keep(store, room, name, count, kept, GONDWIZE_FILE_LENGTH(1)), want);
-    same(what, gondwize_return(store, room, name, count, buffer, sizeof buffer, &length, lend(some_totals)), want);
-    same_lent(what, some_totals);
+    same(what, gondwize_return(store, room, name, count, buffer, sizeof buffer, &length), want);
     same(what, gondwize_forget(store, room, name, count), want);
     same(what, (uint64_t)memcmp(store, store_before, sizeof store), 0);
     same(what, length, 9);
@@ -948,13 +911,12 @@ struct calls {
                                int64_t *, size_t);
     uint64_t (*update)(size_t, size_t, int64_t, int64_t, size_t, size_t, size_t, const uint64_t *, size_t,
                        int64_t *, size_t, int64_t *, size_t);
-    uint64_t (*gather)(size_t, size_t, uint8_t *, size_t, const int64_t *, size_t, const int64_t *, size_t,
-                       int64_t *);
+    uint64_t (*gather)(size_t, size_t, uint8_t *, size_t, const int64_t *, size_t, const int64_t *, size_t);
     uint64_t (*step)(size_t, size_t, int64_t, int64_t, size_t, size_t, size_t, uint8_t *, size_t, uint64_t *,
-                     size_t, int64_t *, size_t, int64_t *, size_t, int64_t *);
+                     size_t, int64_t *, size_t, int64_t *, size_t);
     uint64_t (*run)(size_t, size_t, int64_t, int64_t, size_t, size_t, size_t, size_t, uint8_t *, size_t,
-                    uint64_t *, size_t, int64_t *, size_t, int64_t *, size_t, uint64_t *, int64_t *);
-    uint64_t (*read_file)(const uint8_t *, size_t, int64_t *, int64_t *);
+                    uint64_t *, size_t, int64_t *, size_t, int64_t *, size_t, uint64_t *);
+    uint64_t (*read_file)(const uint8_t *, size_t, int64_t *);
     uint64_t (*keep)(uint8_t *, size_t, const uint8_t *, size_t, const uint8_t *, size_t);
 };
 
@@ -992,10 +954,9 @@ static void put_set(size_t records)
     memset(py, 0, sizeof py);
 }
 
-/* The particles stay at rest, and so do the totals; a refused call has left set and grids. */
+/* A refused call has left set and grids. */
 static void left(const char *what, uint64_t answer)
 {
-    same_lent(what, some_totals);
     if (answer == 0)
         return;
     same(what, (uint64_t)memcmp(set, set_before, sizeof set), 0);
@@ -1011,7 +972,6 @@ static void set_calls_answer(const char *what, const struct calls *by, const str
     int64_t values[GONDWIZE_TOTALS_VALUES] = {7, 7, 7, 7, 7, 7};
     uint64_t number = 9, answer;
     put_set(records);
-    lend(some_totals);
     same(what, by->check_set(g->nx, g->ny, set, g->length, &number), without_grids);
     same(what, number, without_grids == 0 ? records : 9);
     same(what, by->totals(g->nx, g->ny, set, g->length, values), without_grids);
@@ -1023,17 +983,17 @@ static void set_calls_answer(const char *what, const struct calls *by, const str
     same(what, answer, want);
     left(what, answer);
     if (g->mass == g->nx * g->ny) {
-        answer = by->gather(g->nx, g->ny, set, g->length, px, g->px, py, g->py, lent);
+        answer = by->gather(g->nx, g->ny, set, g->length, px, g->px, py, g->py);
         same(what, answer, want);
         left(what, answer);
     }
     answer = by->step(g->nx, g->ny, g->gx, 0, g->kind, 0, g->drag, set, g->length, mass, g->mass, px, g->px, py,
-                      g->py, lent);
+                      g->py);
     same(what, answer, want);
     left(what, answer);
     number = 9;
     answer = by->run(g->nx, g->ny, g->gx, 0, g->kind, 0, g->drag, g->steps, set, g->length, mass, g->mass, px,
-                     g->px, py, g->py, &number, lent);
+                     g->px, py, g->py, &number);
     same(what, answer, want);
     same(what, number, answer == 0 ? g->steps : 0);
     left(what, answer);
@@ -1114,15 +1074,14 @@ static void page_file_answers(const char *what, size_t nx, size_t ny, size_t rec
     const uint8_t name[] = {'P', 'A', 'G', 'E'};
     int64_t values[GONDWIZE_HEADER_VALUES] = {7};
     put_bath_on(nx, ny, records, 5);
-    same(what, page.read_file(kept, length, values, lend(some_totals)), want);
+    same(what, page.read_file(kept, length, values), want);
     same(what, (uint64_t)values[0], want == 0 ? nx : 7);
-    same(what, memcmp(lent, some_totals, LENT_SIZE) == 0, want != 0);
     memcpy(store_before, store, sizeof store);
     same(what, page.keep(store, GONDWIZE_STORE_LENGTH, name, sizeof name, kept, length), want);
     same(what, memcmp(store, store_before, sizeof store) == 0, want != 0);
     same(what, page.keep(store, GONDWIZE_STORE_LENGTH, name, 0, kept, length), refused(GONDWIZE_REFUSED_NAME, 0));
     same(what, page.keep(store, sizeof store, name, 0, kept, length), refused(GONDWIZE_REFUSED_LENGTH, 0));
-    same(what, bench.read_file(kept, length, values, lent), 0);
+    same(what, bench.read_file(kept, length, values), 0);
     same(what, bench.keep(store, GONDWIZE_STORE_LENGTH, name, sizeof name, kept, length), 0);
     return_answers(what, "PAGE", room, records, 0);
     same(what, forgotten("PAGE"), 0);
@@ -1143,126 +1102,12 @@ static void page_files(void)
     page_file_answers("a file too large for the page", most, 12, many + 1, count);
     put_bath_on(most, 12, many + 1, GONDWIZE_MOST_GRAVITY);
     int64_t values[GONDWIZE_HEADER_VALUES];
-    same("count before length", page.read_file(kept, GONDWIZE_HEADER_LENGTH, values, lent), count);
+    same("count before length", page.read_file(kept, GONDWIZE_HEADER_LENGTH, values), count);
     kept[GONDWIZE_HEADER_LENGTH - 1] |= 1;
-    same("count before spare bits", page.read_file(kept, GONDWIZE_FILE_LENGTH(many + 1), values, lent), count);
+    same("count before spare bits", page.read_file(kept, GONDWIZE_FILE_LENGTH(many + 1), values), count);
     kept[GONDWIZE_HEADER_LENGTH - 2] |= 0xF0;
-    same("edge before count", page.read_file(kept, GONDWIZE_FILE_LENGTH(many + 1), values, lent),
+    same("edge before count", page.read_file(kept, GONDWIZE_FILE_LENGTH(many + 1), values),
          refused(GONDWIZE_REFUSED_EDGE, 0));
-}
-
-/* ---- Stored totals at their limits and beyond, and their change, in gather, step and run of both callers. */
-
-enum { STORED_NX = 6, STORED_NY = 5, STORED_NODES = STORED_NX * STORED_NY, STORED = 2,
-       STORED_LENGTH = STORED * GONDWIZE_RECORD_LENGTH };
-
-/* Two particles that move, and node velocities for a gather. */
-static void put_moving(uint8_t *records)
-{
-    for (uint8_t k = 0; k < STORED; k++)
-        same("a record that moves", gondwize_write_record(k, 40 + 9u * k, 120 + 30u * k, 140 - 20u * k, 5 - 7 * k,
-                                                          k - 4, 20, -300, 11 * k, 7, 99,
-                                                          records + k * GONDWIZE_RECORD_LENGTH,
-                                                          GONDWIZE_RECORD_LENGTH), 0);
-    for (size_t node = 0; node < STORED_NODES; node++) {
-        px[node] = 600 - 9 * (int64_t)node;
-        py[node] = 5 * (int64_t)node - 300;
-    }
-}
-
-/* Gather, step or run, by its number, with these settings; of a run, so many steps. */
-static uint64_t moved(const struct calls *by, int call, uint8_t *records, int64_t gx, size_t steps,
-                      uint64_t *completed)
-{
-    const size_t nodes = STORED_NODES;
-    if (call == 0)
-        return by->gather(STORED_NX, STORED_NY, records, STORED_LENGTH, px, nodes, py, nodes, lent);
-    if (call == 1)
-        return by->step(STORED_NX, STORED_NY, gx, -200, GONDWIZE_EDGE_OPEN, 0, 0, records, STORED_LENGTH, mass,
-                        nodes, px, nodes, py, nodes, lent);
-    return by->run(STORED_NX, STORED_NY, gx, -200, GONDWIZE_EDGE_OPEN, 0, 0, steps, records, STORED_LENGTH, mass,
-                   nodes, px, nodes, py, nodes, completed, lent);
-}
-
-/* Each call answers so to stored totals, and changes them with the records. */
-static void stored_answers(const int64_t *stored, int64_t gx, size_t steps, enum gondwize_refusal number)
-{
-    const struct calls *const callers[] = {&bench, &page};
-    for (int k = 0; k < 6; k++) {
-        const struct calls *by = callers[k / 3];
-        const int call = k % 3;
-        uint8_t records[STORED_LENGTH], before[STORED_LENGTH];
-        int64_t sums[2][GONDWIZE_TOTALS_VALUES], want[GONDWIZE_TOTALS_VALUES];
-        uint64_t completed = 9;
-        put_moving(records);
-        memcpy(before, records, sizeof before);
-        lend(stored);
-        same("stored totals", GONDWIZE_NUMBER(moved(by, call, records, gx, steps, &completed)), number);
-        same("moved records", memcmp(records, before, sizeof before) != 0, number == 0);
-        same("sums before", by->totals(STORED_NX, STORED_NY, before, sizeof before, sums[0]), 0);
-        same("sums after", by->totals(STORED_NX, STORED_NY, records, sizeof records, sums[1]), 0);
-        for (int at = 0; at < GONDWIZE_TOTALS_VALUES; at++)
-            want[at] = stored[at] + (sums[1][at] - sums[0][at]);
-        same_lent("stored totals after", want);
-        if (call == 2)
-            same("its completed steps", completed, number == 0 ? steps : 0);
-    }
-}
-
-static void stored_totals(void)
-{
-    const int64_t most = GONDWIZE_MOST_STORED_TOTAL;
-    const enum gondwize_refusal beyond = GONDWIZE_REFUSED_STORED_TOTAL, none = GONDWIZE_NOT_REFUSED;
-    stored_answers(some_totals, 300, 3, none);
-    for (int at = 0; at < GONDWIZE_TOTALS_VALUES; at++) {
-        const int64_t least = 1 <= at && at <= 3 ? -most : 0;
-        const int64_t within[] = {least, most}, out[] = {least - 1, most + 1, -most - 1, INT64_MIN, INT64_MAX};
-        int64_t stored[GONDWIZE_TOTALS_VALUES];
-        memcpy(stored, some_totals, sizeof stored);
-        for (size_t k = 0; k < sizeof within / sizeof *within; k++) {
-            stored[at] = within[k];
-            stored_answers(stored, 300, 3, none);
-        }
-        for (size_t k = 0; k < sizeof out / sizeof *out; k++) {
-            stored[at] = out[k];
-            stored_answers(stored, 300, 3, beyond);
-        }
-    }
-}
-
-/* A run that leaves the grid changes them with its completed steps, and one that is refused not at all. */
-static void stopped_totals(void)
-{
-    uint8_t records[STORED_LENGTH];
-    int64_t sums[GONDWIZE_TOTALS_VALUES], odd[GONDWIZE_TOTALS_VALUES];
-    uint64_t completed = 9;
-    put_moving(records);
-    same("true totals", gondwize_totals(STORED_NX, STORED_NY, records, sizeof records, lent), 0);
-    same("a run off the grid", GONDWIZE_NUMBER(moved(&bench, 2, records, 300, 10000, &completed)),
-         GONDWIZE_REFUSED_NEW_POSITION);
-    same("its steps", completed > 1 && completed < 10000, 1);
-    same("its sums", gondwize_totals(STORED_NX, STORED_NY, records, sizeof records, sums), 0);
-    same_lent("its totals", sums);
-    same("a step off the grid", GONDWIZE_NUMBER(moved(&page, 1, records, 300, 1, &completed)),
-         GONDWIZE_REFUSED_NEW_POSITION);
-    same_lent("totals that a step leaves", sums);
-
-    /* 25 is the last check. */
-    memcpy(odd, some_totals, sizeof odd);
-    odd[0] = -1;
-    lend(odd);
-    same("gravity before totals", moved(&bench, 1, records, GONDWIZE_MOST_GRAVITY + 1, 1, &completed),
-         refused(GONDWIZE_REFUSED_GRAVITY, 0));
-    same("steps before totals", moved(&page, 2, records, 300, GONDWIZE_MOST_STEPS + 1, &completed),
-         refused(GONDWIZE_REFUSED_STEPS, 0));
-    px[STORED_NODES - 1] = GONDWIZE_MOST_NODE_VELOCITY + 1;
-    same("a node before totals", moved(&bench, 0, records, 300, 1, &completed),
-         refused(GONDWIZE_REFUSED_NODE_VELOCITY, STORED_NODES - 1));
-    memset(records + GONDWIZE_RECORD_LENGTH + 2, 0, 2);
-    for (int call = 0; call < 3; call++)
-        same("a record before totals", moved(&page, call, records, 300, 2, &completed),
-             refused(GONDWIZE_REFUSED_MASS, 1));
-    same_lent("totals of refused calls", odd);
 }
 
 int main(void)
@@ -1292,8 +1137,6 @@ int main(void)
     page_sets();
     page_updates();
     page_files();
-    stored_totals();
-    stopped_totals();
     if (failures != 0)
         printf("%d answers differ\n", failures);
     return failures != 0;

@@ -17,10 +17,12 @@ static uint8_t file[GONDWIZE_MOST_FILE_LENGTH + 1];
 static uint64_t mass[GONDWIZE_MOST_GRID];
 static int64_t px[GONDWIZE_MOST_GRID], py[GONDWIZE_MOST_GRID];
 
-static void print_totals(const int64_t t[GONDWIZE_TOTALS_VALUES])
+static void print_totals(size_t nx, size_t ny, const uint8_t *records, size_t length)
 {
-    printf("mass %" PRId64 " px %" PRId64 " py %" PRId64 " spin %" PRId64 " motion %" PRId64
-           " marks %" PRId64 "\n", t[0], t[1], t[2], t[3], t[4], t[5]);
+    int64_t t[GONDWIZE_TOTALS_VALUES];
+    if (gondwize_totals(nx, ny, records, length, t) == 0)
+        printf("mass %" PRId64 " px %" PRId64 " py %" PRId64 " spin %" PRId64 " motion %" PRId64
+               " marks %" PRId64 "\n", t[0], t[1], t[2], t[3], t[4], t[5]);
 }
 
 static void print_records(const uint8_t *records, size_t length)
@@ -55,8 +57,8 @@ int main(void)
         fputs("gondwize: the input could not be read\n", stderr);
         return FAILED_STREAM;
     }
-    int64_t header[GONDWIZE_HEADER_VALUES], totals[GONDWIZE_TOTALS_VALUES];
-    uint64_t answer = gondwize_read_file(file, length, header, totals);
+    int64_t header[GONDWIZE_HEADER_VALUES];
+    uint64_t answer = gondwize_read_file(file, length, header);
     if (answer != 0) {
         uint32_t number = GONDWIZE_NUMBER(answer), place = GONDWIZE_PLACE(answer);
         printf("refused %" PRIu32 " at %" PRIu32 "\n", number, place);
@@ -72,10 +74,10 @@ int main(void)
     uint64_t completed = 0;
     answer = gondwize_run(nx, ny, header[2], header[3], (size_t)header[6], (size_t)header[7],
                           (size_t)header[8], (size_t)header[5], records, bytes,
-                          mass, nodes, px, nodes, py, nodes, &completed, totals);
+                          mass, nodes, px, nodes, py, nodes, &completed);
     printf("done %" PRIu64 " refusal %" PRIu32 " at %" PRIu32 "\n", completed,
            GONDWIZE_NUMBER(answer), GONDWIZE_PLACE(answer));
-    print_totals(totals);
+    print_totals(nx, ny, records, bytes);
     print_records(records, bytes);
     return finished(0);
 }

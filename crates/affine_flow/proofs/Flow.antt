@@ -26,7 +26,6 @@ use Rattle.apic.specs.Limits.{ParticleLimits, SetLimits}
 use Rattle.apic.proofs.Bounds.{spread-whole}
 use Rattle.apic.proofs.Kernel.{Lawful}
 use Rattle.apic.proofs.Spline.{spline-lawful}
-use Rattle.totals.specs.declared.Totals.{Totals}
 use Rattle.simulation.specs.Step.{After, step_by, step_of, nodes_by, step_entry, step_from, step_after}
 use Rattle.simulation.specs.Run.{Completion, run_from, run_by, run_entry, run_after}
 use Rattle.simulation.proofs.Calls.{Ready, ready-step, ready-run, ready-after}
@@ -45,7 +44,7 @@ module _ {w : ℕ → ℕ → ℤ} {d : ℕ} (law : Lawful w d) (s : Settings) (
       (each_map (ParticleLimits s.nx s.ny) _ (λ p h. h.mass-least) ps limits.each)
       follows qs e
 
-module _ (caller : Caller) (s : Settings) (unforced : Unforced s) (f : Flow) (records : List ℕ) (follows : Each (Follows D 4 f) (particles_in records)) (grids : Grids) (totals : Totals) where
+module _ (caller : Caller) (s : Settings) (unforced : Unforced s) (f : Flow) (records : List ℕ) (follows : Each (Follows D 4 f) (particles_in records)) (grids : Grids) where
   abbrev Kept : List ℕ → Type 0
   Kept after = EachPair (MovedBy 1) (particles_in records) (particles_in after)
 
@@ -61,18 +60,18 @@ module _ (caller : Caller) (s : Settings) (unforced : Unforced s) (f : Flow) (re
           (subst (Each (Follows D 4 f)) ready.holds follows) e))
       go (refused n k) e = rw e (λ is-done. not-result is-done)
 
-  after-step : (step_after caller s records grids totals).answer ≡ done → Kept (step_after caller s records grids totals).records
+  after-step : (step_after caller s records grids).answer ≡ done → Kept (step_after caller s records grids).records
   unfolding step_after
-  after-step = go (step_entry caller s records grids totals) refl
+  after-step = go (step_entry caller s records grids) refl
     where
-      go : (a : Answer (List Particle)) → step_entry caller s records grids totals ≡ a → (step_after caller s records grids totals).answer ≡ done → Kept (step_after caller s records grids totals).records
-      go (gives ps) e = rw e (from_step ps (ready-step caller s records totals grids e))
+      go : (a : Answer (List Particle)) → step_entry caller s records grids ≡ a → (step_after caller s records grids).answer ≡ done → Kept (step_after caller s records grids).records
+      go (gives ps) e = rw e (from_step ps (ready-step caller s records grids e))
       go (refused n k) e = rw e (λ is-done. not-result is-done)
 
 pub step-keeps-flow : StepKeepsFlow
-step-keeps-flow caller s unforced f records follows grids totals told after mass x y sums sees is-done =
-    subst (λ bytes. EachPair (MovedBy 1) (particles_in records) (particles_in bytes)) (sym sees.records-are)
-    (after-step caller s unforced f records follows grids totals (sym sees.answer ∙ is-done))
+step-keeps-flow caller s unforced f records follows grids told after mass x y sees is-done =
+    subst (λ bytes. EachPair (MovedBy 1) (particles_in records) (particles_in bytes)) (sym sees.records)
+    (after-step caller s unforced f records follows grids (sym sees.answer ∙ is-done))
 
 -- ---- a run
 
@@ -142,18 +141,18 @@ module _ {w : ℕ → ℕ → ℤ} {d : ℕ} (law : Lawful w d) (s : Settings) (
           })
       go further (refused k p) e = rw e (record { unstopped = λ is-done. not-result is-done; each = stays ready })
 
-after_run : (caller : Caller) (s : Settings) → Unforced s → (A : Axis → ℤ) (records : List ℕ) → Each (Follows D 4 (drift A)) (particles_in records) → (steps : ℕ) (grids : Grids) (totals : Totals) → Ends steps (particles_in records) (run_after caller s steps records grids totals)
+after_run : (caller : Caller) (s : Settings) → Unforced s → (A : Axis → ℤ) (records : List ℕ) → Each (Follows D 4 (drift A)) (particles_in records) → (steps : ℕ) (grids : Grids) → Ends steps (particles_in records) (run_after caller s steps records grids)
 unfolding run_after
-after_run caller s unforced A records follows steps grids totals = go (run_entry caller s steps records grids totals) refl
+after_run caller s unforced A records follows steps grids = go (run_entry caller s steps records grids) refl
   where
-    go : (a : Answer (List Particle)) → run_entry caller s steps records grids totals ≡ a → Ends steps (particles_in records) (run_after caller s steps records grids totals)
+    go : (a : Answer (List Particle)) → run_entry caller s steps records grids ≡ a → Ends steps (particles_in records) (run_after caller s steps records grids)
     go (gives ps) e =
-        let ready = ready-run caller s records totals steps grids e in
+        let ready = ready-run caller s records steps grids e in
         let ends = run-drifts spline-lawful s unforced A steps records ps grids ready (subst (Each (Follows D 4 (drift A))) ready.holds follows) in
         rw e (subst (λ qs. Ends steps qs (run_from s steps records ps grids)) (sym ready.holds) ends)
     go (refused n k) e = rw e (record { unstopped = λ is-done. not-result is-done; each = pair_same (MovedBy 0) unmoved (particles_in records) })
 
 pub run-keeps-drift : RunKeepsDrift
-run-keeps-drift caller s unforced A records follows steps grids totals told after mass x y sums sees =
-    subst₂ (λ t bytes. Drifts steps t (particles_in records) (particles_in bytes)) (sym sees.answer) (sym sees.records-are)
-    (after_run caller s unforced A records follows steps grids totals)
+run-keeps-drift caller s unforced A records follows steps grids told after mass x y sees =
+    subst₂ (λ t bytes. Drifts steps t (particles_in records) (particles_in bytes)) (sym sees.answer) (sym sees.records)
+    (after_run caller s unforced A records follows steps grids)

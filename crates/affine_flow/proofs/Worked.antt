@@ -17,7 +17,6 @@ use Rattle.settings.specs.Settings.{still}
 use Rattle.gathering.specs.Gather.{move_check, move_checks}
 use Rattle.update.specs.Update.{velocities}
 use Rattle.entry.specs.Entry.{checked_forces, begin_answer, entry_answer}
-use Rattle.totals.specs.Running.{valid_totals, checked_totals, then_totals}
 use Rattle.simulation.specs.Step.{masses_by, momenta_by, velocities_by, stepped_by, step_by, step_entry, step_from, step_after}
 use Rattle.simulation.specs.Run.{run_by, run_entry, run_after}
 use Rattle.affine_flow.specs.Flow.{Flow, times_place, Follows}
@@ -70,7 +69,7 @@ calm along_x = refl
 calm along_y = refl
 
 pub examples : Examples
-unfolding nearest nearest_node offset on_axis axis_weight particle_of record_of read_particle read_answer checked_particle set_from records_of node_mass node_momentum node_velocity after_drag updated_velocity gathered_velocity gathered_affine moved move_check move_checks velocities masses_by momenta_by velocities_by stepped_by step_by checked_forces entry_answer begin_answer valid_totals checked_totals then_totals step_entry step_from step_after run_by run_entry run_after
+unfolding nearest nearest_node offset on_axis axis_weight particle_of record_of read_particle read_answer checked_particle set_from records_of node_mass node_momentum node_velocity after_drag updated_velocity gathered_velocity gathered_affine moved move_check move_checks velocities masses_by momenta_by velocities_by stepped_by step_by checked_forces entry_answer begin_answer step_entry step_from step_after run_by run_entry run_after
 examples =
     record {
       unforced = record { plain = record { edge-open = refl; no-drag = refl }; no-gravity = calm };

@@ -10,7 +10,6 @@ use Rattle.particle.specs.declared.Particle.{Particle}
 use Rattle.particles.specs.Set.{records_of, check_answer}
 use Rattle.settings.specs.Settings.{still}
 use Rattle.apic.specs.Step.{Axis, along_x, along_y, Grids}
-use Rattle.totals.specs.Totals.{no_totals}
 use Rattle.simulation.specs.Step.{After, step_after}
 use Rattle.simulation.specs.Run.{Completion, run_after}
 use Rattle.affine_flow.specs.Flow.{Flow, Follows, drift, Unforced}
@@ -145,16 +144,16 @@ missed =
     ∷ third (entries (neg_ℤ (pos 1)) (pos 129) (neg_ℤ (pos 128)) (pos 0)) 200 77 (neg_ℤ (pos 2)) (neg_ℤ (pos 7))
     ∷ []
 
--- ---- calls, with grids that hold something and running totals of zero
+-- ---- calls, with grids that hold something
 
 abbrev lent : Grids
 lent = record { mass = replicate 30 3; x = replicate 30 (pos 5); y = replicate 30 (neg_ℤ (pos 7)) }
 
 abbrev stepping : List Particle → After (Answer Unit)
-stepping ps = step_after Bench (still 6 5) (records_of ps) lent no_totals
+stepping ps = step_after Bench (still 6 5) (records_of ps) lent
 
 abbrev running : ℕ → List Particle → After Completion
-running steps ps = run_after Bench (still 6 5) steps (records_of ps) lent no_totals
+running steps ps = run_after Bench (still 6 5) steps (records_of ps) lent
 
 -- ---- the examples
 

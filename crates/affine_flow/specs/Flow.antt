@@ -11,7 +11,6 @@ use Rattle.settings.specs.declared.Settings.{Settings}
 use Rattle.settings.specs.Settings.{Plain}
 use Rattle.apic.specs.Step.{Axis, along_x, along_y, coordinate, velocity, affine, gravity, Grids}
 use Rattle.apic.specs.Motion.{Placed}
-use Rattle.totals.specs.declared.Totals.{Totals}
 use Rattle.simulation.specs.Step.{Sees, step_by, step_after}
 use Rattle.simulation.specs.Run.{Completion, run_after}
 
@@ -64,8 +63,8 @@ EachPair R (x ∷ xs) (y ∷ ys) = R x y × EachPair R xs ys
 -- "a step that isn't refused", by what its promise says that a caller sees. A set that is not accepted is refused
 abbrev pub StepKeepsFlow : Type 0
 StepKeepsFlow =
-    (caller : Caller) (s : Settings) → Unforced s → (f : Flow) (records : List ℕ) → Each (Follows 1024 4 f) (particles_in records) → (grids : Grids) (totals : Totals)
-    → (told : Answer Unit) (after mass : List ℕ) (x y : List ℤ) (sums : Totals) → Sees (step_after caller s records grids totals) records totals told after mass x y sums
+    (caller : Caller) (s : Settings) → Unforced s → (f : Flow) (records : List ℕ) → Each (Follows 1024 4 f) (particles_in records) → (grids : Grids)
+    → (told : Answer Unit) (after mass : List ℕ) (x y : List ℤ) → Sees (step_after caller s records grids) told after mass x y
     → told ≡ done → EachPair (MovedBy 1) (particles_in records) (particles_in after)
 
 -- ---- run
@@ -79,8 +78,8 @@ pub record Drifts (steps : ℕ) (told : Completion) (before after : List Particl
 abbrev pub RunKeepsDrift : Type 0
 RunKeepsDrift =
     (caller : Caller) (s : Settings) → Unforced s → (A : Axis → ℤ) (records : List ℕ) → Each (Follows 1024 4 (drift A)) (particles_in records)
-    → (steps : ℕ) (grids : Grids) (totals : Totals)
-    → (told : Completion) (after mass : List ℕ) (x y : List ℤ) (sums : Totals) → Sees (run_after caller s steps records grids totals) records totals told after mass x y sums
+    → (steps : ℕ) (grids : Grids)
+    → (told : Completion) (after mass : List ℕ) (x y : List ℤ) → Sees (run_after caller s steps records grids) told after mass x y
     → Drifts steps told (particles_in records) (particles_in after)
 
 -- ---- any weights, any D

@@ -18,7 +18,6 @@ use Rattle.entry.specs.Entry.{entry_answer}
 use Rattle.entry.proofs.Entry.{accepted}
 use Rattle.settings.specs.declared.Settings.{Settings}
 use Rattle.apic.specs.Step.{Grids}
-use Rattle.totals.proofs.Stored.{then-passed}
 use Rattle.apic.specs.Motion.{AtRest}
 use Rattle.apic.proofs.Spline.{spline-lawful}
 use Rattle.simulation.specs.Step.{After, buffers_of, step_of, nodes_of, step_entry, step_from, step_after}
@@ -57,11 +56,11 @@ run-rests s (suc n) records ps grids found =
 
 pub still-rests : StillRests
 unfolding run_entry run_after
-still-rests records still caller s gentle steps grids totals = go (run_entry caller s steps records grids totals) refl
+still-rests records still caller s gentle steps grids = go (run_entry caller s steps records grids) refl
   where
-    go : (a : Answer (List Particle)) → run_entry caller s steps records grids totals ≡ a → Rests caller s steps records grids totals
+    go : (a : Answer (List Particle)) → run_entry caller s steps records grids ≡ a → Rests caller s steps records grids
     go (gives ps) e =
-        let ends = run-rests s steps records ps grids (found records still caller s gentle grids steps (then-passed totals _ e).0) in
+        let ends = run-rests s steps records ps grids (found records still caller s gentle grids steps e) in
         record { left = rw e ends.0; completes = λ qs f. rw e ends.1 }
     go (refused n k) e = record { left = rw e refl; completes = λ qs f. not-refused (sym f ∙ e) }
 
@@ -69,12 +68,12 @@ still-rests records still caller s gentle steps grids totals = go (run_entry cal
 
 still-call : (records : List ℕ) → Still records → (c : Call) → Gentle (settings_of c) → leaves c records ≡ records
 unfolding step_entry step_from step_after
-still-call records still (step caller s grids totals) gentle = go (step_entry caller s records grids totals) refl
+still-call records still (step caller s grids) gentle = go (step_entry caller s records grids) refl
   where
-    go : (a : Answer (List Particle)) → step_entry caller s records grids totals ≡ a → (step_after caller s records grids totals).records ≡ records
-    go (gives ps) e = let f = found records still caller s gentle grids 0 (then-passed totals _ e).0 in rw (e, f.stays) f.written
+    go : (a : Answer (List Particle)) → step_entry caller s records grids ≡ a → (step_after caller s records grids).records ≡ records
+    go (gives ps) e = let f = found records still caller s gentle grids 0 e in rw (e, f.stays) f.written
     go (refused n k) e = rw e refl
-still-call records still (run caller s steps grids totals) gentle = (still-rests records still caller s gentle steps grids totals).left
+still-call records still (run caller s steps grids) gentle = (still-rests records still caller s gentle steps grids).left
 
 pub still-through-calls : StillThroughCalls
 unfolding leaves_all

@@ -9,7 +9,6 @@ use Rattle.particles.specs.Set.{Bytes, particles_in}
 use Rattle.settings.specs.declared.Settings.{Settings}
 use Rattle.settings.specs.Settings.{Plain}
 use Rattle.apic.specs.Step.{Grids}
-use Rattle.totals.specs.declared.Totals.{Totals}
 use Rattle.apic.specs.Motion.{AtRest}
 use Rattle.simulation.specs.Run.{run_entry, run_after}
 use Rattle.simulation.specs.Demand3.{Call, settings_of, leaves_all}
@@ -29,13 +28,13 @@ pub record Still (records : List ℕ) : Type 0 where
   pub at_rest : Each AtRest (particles_in records)
 
 -- a run leaves the records; and where its checks at entry pass, it completes all its steps
-pub record Rests (caller : Caller) (s : Settings) (steps : ℕ) (records : List ℕ) (grids : Grids) (totals : Totals) : Type 0 where
-  pub left : (run_after caller s steps records grids totals).records ≡ records
-  pub completes : (ps : List Particle) → run_entry caller s steps records grids totals ≡ gives ps → (run_after caller s steps records grids totals).answer ≡ record { completed = steps; stop = done }
+pub record Rests (caller : Caller) (s : Settings) (steps : ℕ) (records : List ℕ) (grids : Grids) : Type 0 where
+  pub left : (run_after caller s steps records grids).records ≡ records
+  pub completes : (ps : List Particle) → run_entry caller s steps records grids ≡ gives ps → (run_after caller s steps records grids).answer ≡ record { completed = steps; stop = done }
 
 abbrev pub StillRests : Type 0
 StillRests =
-    (records : List ℕ) → Still records → (caller : Caller) (s : Settings) → Gentle s → (steps : ℕ) (grids : Grids) (totals : Totals) → Rests caller s steps records grids totals
+    (records : List ℕ) → Still records → (caller : Caller) (s : Settings) → Gentle s → (steps : ℕ) (grids : Grids) → Rests caller s steps records grids
 
 abbrev pub StillThroughCalls : Type 0
 StillThroughCalls =

@@ -17,7 +17,6 @@ use Rattle.refusal.specs.Refused.{Answer, gives, refused, refuse_if, and_then, k
 use Rattle.refusal.proofs.Answers.{passed, went_on, same-result, same-refusal, not-refused, wrong-length, right-length, length-passed}
 use Rattle.limits.specs.declared.Caller.{Caller}
 use Rattle.limits.specs.declared.Caller.TheVariants.{Bench}
-use Rattle.particle.specs.declared.Particle.{Particle}
 use Rattle.particle.specs.Layout.{record_length}
 use Rattle.particles.specs.Set.{set_of}
 use Rattle.particles.specs.Walk.{counted}
@@ -111,16 +110,12 @@ module _ (h : Header) (bytes : List ℕ) where
       let w = went_on (set_of h.nx h.ny header_length bytes h.count) _ e in
       right-records n ∙ ap (λ a. and_then a (λ _. gives h)) w.1
 
-  -- whatever is made of the set's particles
-  pub set-refused : {B : Type 0} (f : List Particle → B) → length bytes ≡ file_length → {n k : ℕ} → and_then (set_of h.nx h.ny header_length bytes h.count) (λ ps. gives (f ps)) ≡ refused n k → records_answer h bytes ≡ refused n k
-  set-refused f n e = right-records n ∙ go (set_of h.nx h.ny header_length bytes h.count) f e
+  pub records-refused : length bytes ≡ file_length → {n k : ℕ} → counted h.nx h.ny header_length bytes h.count ≡ refused n k → records_answer h bytes ≡ refused n k
+  records-refused n e = right-records n ∙ go (set_of h.nx h.ny header_length bytes h.count) length e
     where
       go : {A B : Type 0} (a : Answer A) (f : A → B) {n k : ℕ} → and_then a (λ x. gives (f x)) ≡ refused n k → and_then a (λ _. gives h) ≡ refused n k
       go (gives x) f e = not-refused e
       go (refused m j) f e = same-refusal e
-
-  pub records-refused : length bytes ≡ file_length → {n k : ℕ} → counted h.nx h.ny header_length bytes h.count ≡ refused n k → records_answer h bytes ≡ refused n k
-  records-refused n e = set-refused length n e
 
 -- ---- writing
 

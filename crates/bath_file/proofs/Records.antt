@@ -1,5 +1,4 @@
 -- An accepted file is its header, and then the records of a set that breaks no limit.
---     behind-set            the set behind a header, as a set of its own
 --     FileHeld, file-held   what a file that a caller accepts says: the bytes behind the header are a set that the caller accepts,
 --                           as many records as the header counts
 --     file-bytes            such a file is the header's bytes, and then the records of the set's particles
@@ -69,24 +68,21 @@ module _ (caller : Caller) (bytes : List ℕ) (h : Header) where
     pub set : set_answer caller h.nx h.ny behind ≡ gives particles
     pub number : length particles ≡ h.count
 
-  -- the set that was checked where it lies is the one behind the header
-  pub behind-set : Valid caller h → length bytes ≡ header_length + record_length * h.count → {ps : List Particle} → set_of h.nx h.ny header_length bytes h.count ≡ gives ps → set_answer caller h.nx h.ny behind ≡ gives ps
-  behind-set v n e =
-      let l = whole n in
-      good-entry caller h.nx h.ny behind v.size (valid-length l (le_trans v.count-to (records-most caller))) (few l v.count-to)
-      ∙ ap (set_of h.nx h.ny 0 behind) (counts l)
-      ∙ sym (moved h.nx h.ny header_length bytes h.count 0 0 0)
-      ∙ e
-
   -- what an accepted set behind this header says
   held : header_answer caller bytes ≡ gives h → records_answer h bytes ≡ gives h → FileHeld
   held read rest =
       let n = records-passed h bytes rest in
       let w = went_on (set_of h.nx h.ny header_length bytes h.count) (λ _. gives h) n.1 in
+      let v = (header-held caller bytes read).valid in
+      let l = whole n.0 in
       record {
         particles = w.0;
         header = read;
-        set = behind-set (header-held caller bytes read).valid n.0 w.1;
+        set =
+            good-entry caller h.nx h.ny behind v.size (valid-length l (le_trans v.count-to (records-most caller))) (few l v.count-to)
+            ∙ ap (set_of h.nx h.ny 0 behind) (counts l)
+            ∙ sym (moved h.nx h.ny header_length bytes h.count 0 0 0)
+            ∙ w.1;
         number = counted h.nx h.ny header_length bytes h.count 0 0 0 w.1;
       }
 

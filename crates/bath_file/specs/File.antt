@@ -1,16 +1,14 @@
--- Documents 01, "Read a file", and 02, Papers 1, 6, 9 and 10: its answer to a caller for any bytes, and the running totals that it
--- leaves; and writing a header: its answer, and the buffer that it leaves.
+-- Documents 01, "Read a file", and 02, Papers 1, 6 and 9: its answer to a caller for any bytes; and writing a header: its answer, and
+-- the buffer that it leaves.
 -- Assumes nothing.
-use Rattle.std.specs.Prelude.{◌≡◌, ℕ, ◌+◌, ◌*◌, ◌≤◌, Bool, not, ◌&&◌, List, ltb, eqb, ℤ, pos, nat_abs, length, take, drop}
-use Rattle.refusal.specs.Refused.{Answer, gives, refused_by, refuse_if, and_then, either, kept_unless}
+use Rattle.std.specs.Prelude.{ℕ, ◌+◌, ◌*◌, ◌≤◌, Bool, not, ◌&&◌, List, ltb, eqb, ℤ, pos, nat_abs, length, take}
+use Rattle.refusal.specs.Refused.{Answer, gives, refused_by, refuse_if, and_then, kept_unless}
 use Rattle.limits.specs.declared.Caller.{Caller}
 use Rattle.limits.specs.declared.Caller.TheVariants.{Bench}
 use Rattle.limits.specs.Limits.{most_steps, most_drag, most_side_of, most_records_of, valid_gravity}
 use Rattle.particle.specs.Layout.{record_length}
 use Rattle.particles.specs.Set.{set_length, valid_size, set_of}
 use Rattle.settings.specs.Settings.{edge_of, valid_edge}
-use Rattle.totals.specs.declared.Totals.{Totals}
-use Rattle.totals.specs.Running.{totals_in}
 use Rattle.bath_file.specs.declared.Header.{Header}
 use Rattle.bath_file.specs.declared.FileRead.{FileRead}
 use Rattle.bath_file.specs.declared.FileRead.TheVariants as read
@@ -96,18 +94,6 @@ room_for_file = header_length + set_length + 1
 -- the whole list; the result is the header's values
 abbrev pub file_answer : Caller → List ℕ → Answer Header
 file_answer caller bytes = and_then (header_answer caller bytes) (λ h. records_answer h bytes)
-
--- the records lie behind the header
-abbrev pub records_in : List ℕ → List ℕ
-records_in bytes = drop header_length bytes
-
--- the totals are set to the true sums, whatever they were; a refused file leaves them
-unfoldable pub read_totals : Caller → List ℕ → Totals → Totals
-read_totals caller bytes totals = either (file_answer caller bytes) (λ _. totals_in (records_in bytes)) (λ n k. totals)
-
-pub record ReadIs (caller : Caller) (bytes : List ℕ) (totals : Totals) (told : Answer Header) (totals' : Totals) : Type 0 where
-  pub answer : told ≡ file_answer caller bytes
-  pub totals-are : totals' ≡ read_totals caller bytes totals
 
 abbrev pub told_read : FileRead → Answer Header
 told_read (read.Accepted h) = gives h

@@ -2,7 +2,6 @@
 // in proofs/.
 use particles::SET_LENGTH;
 use refusal::Refusal;
-use totals::Totals;
 
 // The length of a header in bytes.
 pub const HEADER_LENGTH: usize = 11;
@@ -29,13 +28,6 @@ pub struct Header {
 pub enum FileRead {
     Accepted(Header),
     Refused(Refusal),
-}
-
-// The answer of reading a file, and the running totals after it.
-#[derive(Drop)]
-pub struct FileOutcome {
-    pub answer: FileRead,
-    pub totals: Totals,
 }
 
 #[derive(Drop)]

@@ -1,6 +1,6 @@
 -- The result r of a call on small numbers: read back, it is the integer v, within k. Assumes nothing.
 use mathlib.Core.Path.{◌≡◌, sym, ◌∙◌}
-use Prim.Native.Nat.{ℕ, ◌<◌, ◌≤◌, ◌^◌}
+use Prim.Native.Nat.{ℕ, ◌<◌, ◌^◌}
 use native.Mathlib.Omega.{arith}
 use lib.Dec.{T, ltb}
 use lib.IntN.{ℤ, pos}
@@ -8,7 +8,7 @@ use lib.Signed.{mag}
 use mir.Syntax.{w16, w64}
 use mir.Val.{SFits, to_z, of_z, hbits}
 use mir.Facts.{to_z-of_z}
-use Rattle.arith.specs.Size.{Bound, bound-pos, bound-machine, bound-equal, bound-widen}
+use Rattle.arith.specs.Size.{Bound, bound-pos, bound-machine, bound-equal}
 use Rattle.arith.specs.Machine.{read_as}
 
 pub record Held (r v : ℤ) (k : ℕ) : Type 0 where
@@ -29,6 +29,3 @@ pub held-signed : {r : ℤ} (v : ℤ) → r ≡ to_z w16 (of_z w16 v) → mag v 
 held-signed v e h =
     let fits : SFits w16 v = record { sfits = h } in
     held (e ∙ to_z-of_z fits) (bound-machine fits) tt
-
-pub wider : {r v : ℤ} {k n : ℕ} → k ≤ n → Held r v k → Held r v n
-wider l h = record { is = h.is; small = bound-widen l h.small; here = bound-widen l h.here }

@@ -3,14 +3,13 @@
 ghost use Rattle.std.specs.Prelude.{◌≡◌};
 ghost use Rattle.particles.specs.Set.{check_answer};
 ghost use Rattle.totals.specs.Totals.{totals_answer, sums};
-ghost use Rattle.totals.specs.Running.{of_sums};
 ghost use Rattle.transfer.specs.Transfer.{ScatterIs, GatherIs};
 ghost use Rattle.adding.specs.Adding.{AddingIs};
 ghost use Rattle.update.specs.Update.{UpdateIs};
 ghost use Rattle.apic.specs.Step.{grids_of};
 ghost use Rattle.settings.specs.Settings.{settings_with};
 ghost use Rattle.simulation.specs.Step.{Sees, step_after};
-ghost use Rattle.bath_file.specs.File.{file_answer, read_totals};
+ghost use Rattle.bath_file.specs.File.{file_answer};
 ghost use Rattle.store.specs.Operations.{keep_answer, keep_leaves};
 ghost use Rattle.wide.specs.Values.{settings};
 ghost use Rattle.coding.specs.Coded.{coded, Gives, Tells};
@@ -122,7 +121,7 @@ pub fn update(
     }
 }
 
-// Gather, and the running totals.
+// Gather.
 pub fn gather(
     caller: Caller,
     nx: usize,
@@ -130,24 +129,18 @@ pub fn gather(
     records: &mut [u8],
     ux: &[i64],
     uy: &[i64],
-    totals: &mut [i64; totals::SUMS],
 ) -> u64
     ensures { Tells (λ told. GatherIs caller nx ny
-        records.old ux.now uy.now (of_sums totals.old) told
-        records.new (of_sums totals.new)) result }
+        records.old ux.now uy.now told
+        records.new) result }
 {
-    let lent = totals_share::of_sums(*totals);
-    let outcome = gather::gather(caller, nx, ny, records, ux, uy, lent);
-    let told = outcome.answer;
-    let sums = outcome.totals;
-    *totals = totals_share::sums_of(sums);
-    match told {
+    match gather::gather(caller, nx, ny, records, ux, uy) {
         Moved::Refused(refusal) => answer::code(refusal),
         Moved::Done => 0,
     }
 }
 
-// Step, and the running totals.
+// Step.
 pub fn step(
     caller: Caller,
     nx: usize,
@@ -161,41 +154,23 @@ pub fn step(
     mass: &mut [u64],
     px: &mut [i64],
     py: &mut [i64],
-    totals: &mut [i64; totals::SUMS],
 ) -> u64
     ensures { Tells (λ told. Sees (step_after caller (settings_with nx ny gx gy kind width drag)
-        records.old (grids_of mass.old px.old py.old) (of_sums totals.old))
-        records.old (of_sums totals.old) told
-        records.new mass.new px.new py.new (of_sums totals.new)) result }
+        records.old (grids_of mass.old px.old py.old)) told
+        records.new mass.new px.new py.new) result }
 {
     let settings = settings::of_numbers(nx, ny, gx, gy, kind, width, drag);
-    let lent = totals_share::of_sums(*totals);
-    let outcome = run::step(caller, settings, records, mass, px, py, lent);
-    let told = outcome.answer;
-    let sums = outcome.totals;
-    *totals = totals_share::sums_of(sums);
-    match told {
+    match run::step(caller, settings, records, mass, px, py) {
         Stepped::Refused(refusal) => answer::code(refusal),
         Stepped::Done => 0,
     }
 }
 
-// Read a file: nine values, and the running totals.
-pub fn read_file(
-    caller: Caller,
-    bytes: &[u8],
-    values: &mut [i64; wide::SETTINGS],
-    totals: &mut [i64; totals::SUMS],
-) -> u64
-    ensures values { Gives (file_answer caller bytes.now) settings values.old result values.new }
-    ensures totals { of_sums totals.new ≡ read_totals caller bytes.now (of_sums totals.old) }
+// Read a file: nine values.
+pub fn read_file(caller: Caller, bytes: &[u8], values: &mut [i64; wide::SETTINGS]) -> u64
+    ensures { Gives (file_answer caller bytes.now) settings values.old result values.new }
 {
-    let lent = totals_share::of_sums(*totals);
-    let outcome = file_reader::read_file(caller, bytes, lent);
-    let told = outcome.answer;
-    let sums = outcome.totals;
-    *totals = totals_share::sums_of(sums);
-    match told {
+    match file_reader::read_file(caller, bytes) {
         FileRead::Refused(refusal) => answer::code(refusal),
         FileRead::Accepted(h) => {
             *values = wide::of_header(h);

@@ -1,12 +1,12 @@
 // The calls of the operations that have two callers, for the program `cases`: each reads its numbers and lists, and prints its
-// answer and what it may have changed. A value that a call may give is 7 before; running totals are those that the call is lent.
+// answer and what it may have changed. A value that a call may give is 7 before.
 pub mod records;
 
 use limits::Caller;
 use lines::lists::{NODES, integers, naturals};
 use lines::print;
 use lines::words::{integer, size};
-use totals::{SUMS, Totals};
+use totals::SUMS;
 
 // The names that a line may begin with, each the number that its letters make in ASCII.
 const CHECK: u64 = 0x636865636b;
@@ -90,20 +90,18 @@ fn update(caller: Caller) {
     print::grids(&mass, &x, &y);
 }
 
-fn gather(caller: Caller, stored: Totals, bytes: &mut [u8]) {
-    let mut totals = totals_share::sums_of(stored);
+fn gather(caller: Caller, bytes: &mut [u8]) {
     let mut x = [0; NODES];
     let mut y = [0; NODES];
     let nx = size();
     let ny = size();
     let ux = integers(&mut x);
     let uy = integers(&mut y);
-    let code = by_caller::gather(caller, nx, ny, bytes, ux, uy, &mut totals);
-    records::after_totals(code, &totals, bytes);
+    let code = by_caller::gather(caller, nx, ny, bytes, ux, uy);
+    records::after(code, bytes);
 }
 
-fn step(caller: Caller, stored: Totals, bytes: &mut [u8]) {
-    let mut totals = totals_share::sums_of(stored);
+fn step(caller: Caller, bytes: &mut [u8]) {
     let mut mass = [0; NODES];
     let mut x = [0; NODES];
     let mut y = [0; NODES];
@@ -120,14 +118,12 @@ fn step(caller: Caller, stored: Totals, bytes: &mut [u8]) {
         naturals(&mut mass),
         integers(&mut x),
         integers(&mut y),
-        &mut totals,
     );
-    records::after_totals(code, &totals, bytes);
+    records::after(code, bytes);
     print::grids(&mass, &x, &y);
 }
 
-fn run(caller: Caller, stored: Totals, bytes: &mut [u8]) {
-    let mut totals = totals_share::sums_of(stored);
+fn run(caller: Caller, bytes: &mut [u8]) {
     let mut mass = [0; NODES];
     let mut x = [0; NODES];
     let mut y = [0; NODES];
@@ -147,46 +143,43 @@ fn run(caller: Caller, stored: Totals, bytes: &mut [u8]) {
         integers(&mut x),
         integers(&mut y),
         &mut completed,
-        &mut totals,
     );
-    records::after_totals(code, &totals, bytes);
+    records::after(code, bytes);
     print::count(completed);
     print::grids(&mass, &x, &y);
 }
 
-fn read_file(caller: Caller, stored: Totals, bytes: &[u8]) {
+fn read_file(caller: Caller, bytes: &[u8]) {
     let mut values = [7; 9];
-    let mut totals = totals_share::sums_of(stored);
-    print::answer(by_caller::read_file(caller, bytes, &mut values, &mut totals));
-    print::totals(&totals);
+    print::answer(by_caller::read_file(caller, bytes, &mut values));
     print::header(&values);
 }
 
 // The operations that leave the bytes.
-fn looking(name: u64, caller: Caller, stored: Totals, bytes: &[u8]) {
+fn looking(name: u64, caller: Caller, bytes: &[u8]) {
     match name {
         CHECK => check_set(caller, bytes),
         TOTALS => totals(caller, bytes),
         SCATTER => scatter(caller, bytes),
         ADDING => adding_scatter(caller, bytes),
         UPDATE => update(caller),
-        FILE => read_file(caller, stored, bytes),
+        FILE => read_file(caller, bytes),
         _ => {}
     }
 }
 
 // Those that may change them.
-fn changing(name: u64, caller: Caller, stored: Totals, bytes: &mut [u8]) {
+fn changing(name: u64, caller: Caller, bytes: &mut [u8]) {
     match name {
-        GATHER => gather(caller, stored, bytes),
-        STEP => step(caller, stored, bytes),
-        RUN => run(caller, stored, bytes),
+        GATHER => gather(caller, bytes),
+        STEP => step(caller, bytes),
+        RUN => run(caller, bytes),
         _ => {}
     }
 }
 
-// Calls an operation for a caller, with these running totals; nothing where the line names none of these. The program `cases` calls it.
-pub fn call(name: u64, caller: Caller, stored: Totals, bytes: &mut [u8]) {
-    looking(name, caller, stored, bytes);
-    changing(name, caller, stored, bytes);
+// Calls an operation for a caller; nothing where the line names none of these. The program `cases` calls it.
+pub fn call(name: u64, caller: Caller, bytes: &mut [u8]) {
+    looking(name, caller, bytes);
+    changing(name, caller, bytes);
 }

@@ -1,7 +1,6 @@
 // The records as a call left them.
 use lines::print;
 use particle::{NUMBERS, RECORD_LENGTH};
-use totals::SUMS;
 
 // A record's fields, or its bytes if it cannot be read.
 fn one(record: &[u8]) {
@@ -28,12 +27,5 @@ fn all(bytes: &[u8]) {
 // A call's answer, and then the records.
 pub fn after(code: u64, bytes: &[u8]) {
     print::answer(code);
-    all(bytes);
-}
-
-// A call's answer, the running totals, and then the records.
-pub fn after_totals(code: u64, totals: &[i64; SUMS], bytes: &[u8]) {
-    print::answer(code);
-    print::totals(totals);
     all(bytes);
 }

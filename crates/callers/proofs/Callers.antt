@@ -31,13 +31,12 @@ every_call c (totals nx ny records) = record { told = _; left = tt; promised = r
 every_call c (scatter nx ny records g) = record { told = _; left = _; promised = record { answer = refl; left_is = refl } }
 every_call c (adding_scatter nx ny records g) = record { told = _; left = _; promised = record { answer = refl; left_is = refl } }
 every_call c (update s g) = record { told = _; left = _; promised = record { answer = refl; left_is = refl } }
-every_call c (gather nx ny records ux uy t) =
-    record { told = _; left = (_, _); promised = record { moves = record { answer = refl; left_is = refl }; totals-are = refl } }
-every_call c (step s records g t) =
-    record { told = _; left = ((_, _), _); promised = record { answer = refl; records-are = refl; masses = refl; x-velocities = refl; y-velocities = refl; totals-are = refl } }
-every_call c (run s steps records g t) =
-    record { told = _; left = ((_, _), _); promised = record { answer = refl; records-are = refl; masses = refl; x-velocities = refl; y-velocities = refl; totals-are = refl } }
-every_call c (read_file bytes t) = record { told = _; left = _; promised = record { answer = refl; totals-are = refl } }
+every_call c (gather nx ny records ux uy) = record { told = _; left = _; promised = record { answer = refl; left_is = refl } }
+every_call c (step s records g) =
+    record { told = _; left = (_, _); promised = record { answer = refl; records = refl; masses = refl; x-velocities = refl; y-velocities = refl } }
+every_call c (run s steps records g) =
+    record { told = _; left = (_, _); promised = record { answer = refl; records = refl; masses = refl; x-velocities = refl; y-velocities = refl } }
+every_call c (read_file bytes) = record { told = _; left = tt; promised = refl }
 every_call c (keep store name file) = record { told = _; left = _; promised = record { answer = refl; store_is = refl } }
 
 module _ (c : Caller) where
@@ -47,10 +46,10 @@ module _ (c : Caller) where
   first-within (scatter nx ny records g) w = within-entry c (still nx ny) _ 0 records w
   first-within (adding_scatter nx ny records g) w = within-entry c (still nx ny) _ 0 records w
   first-within (update s g) w = within-begin c s _ 0 0 w
-  first-within (gather nx ny records ux uy t) w = within-entry c (still nx ny) _ 0 records w
-  first-within (step s records g t) w = within-entry c s (buffers_of g) 0 records w
-  first-within (run s steps records g t) w = within-entry c s (buffers_of g) steps records w
-  first-within (read_file bytes t) w = within-file c bytes w
+  first-within (gather nx ny records ux uy) w = within-entry c (still nx ny) _ 0 records w
+  first-within (step s records g) w = within-entry c s (buffers_of g) 0 records w
+  first-within (run s steps records g) w = within-entry c s (buffers_of g) steps records w
+  first-within (read_file bytes) w = within-file c bytes w
   first-within (keep store name file) w = within-keep c store name file (within-file c file w)
 
   first-or : (o : Operation) → Either (first_answer c o) (first_answer Bench o)
@@ -59,10 +58,10 @@ module _ (c : Caller) where
   first-or (scatter nx ny records g) = entry-or c (still nx ny) _ 0 records
   first-or (adding_scatter nx ny records g) = entry-or c (still nx ny) _ 0 records
   first-or (update s g) = begin-or c s _ 0 0
-  first-or (gather nx ny records ux uy t) = entry-or c (still nx ny) _ 0 records
-  first-or (step s records g t) = entry-or c s (buffers_of g) 0 records
-  first-or (run s steps records g t) = entry-or c s (buffers_of g) steps records
-  first-or (read_file bytes t) = file-or c bytes
+  first-or (gather nx ny records ux uy) = entry-or c (still nx ny) _ 0 records
+  first-or (step s records g) = entry-or c s (buffers_of g) 0 records
+  first-or (run s steps records g) = entry-or c s (buffers_of g) steps records
+  first-or (read_file bytes) = file-or c bytes
   first-or (keep store name file) = keep-or c store name file
 
   passed-within : (o : Operation) (v : Value o) → first_answer c o ≡ gives v → Within c o
@@ -71,10 +70,10 @@ module _ (c : Caller) where
   passed-within (scatter nx ny records g) v e = entered-within c (still nx ny) _ 0 records e
   passed-within (adding_scatter nx ny records g) v e = entered-within c (still nx ny) _ 0 records e
   passed-within (update s g) v e = begun-within c s _ 0 0 e
-  passed-within (gather nx ny records ux uy t) v e = entered-within c (still nx ny) _ 0 records e
-  passed-within (step s records g t) v e = entered-within c s (buffers_of g) 0 records e
-  passed-within (run s steps records g t) v e = entered-within c s (buffers_of g) steps records e
-  passed-within (read_file bytes t) v e = file-within c bytes e
+  passed-within (gather nx ny records ux uy) v e = entered-within c (still nx ny) _ 0 records e
+  passed-within (step s records g) v e = entered-within c s (buffers_of g) 0 records e
+  passed-within (run s steps records g) v e = entered-within c s (buffers_of g) steps records e
+  passed-within (read_file bytes) v e = file-within c bytes e
   passed-within (keep store name file) v e = file-within c file (keep-passed c store name file e).accepts
 
   -- the promise, where the first checks answer as the bench's

@@ -26,22 +26,22 @@ use Rattle.simulation.specs.Step.{Sees, step_after}
 use Rattle.simulation.specs.Run.{Completion, run_after}
 use Rattle.bath_file.specs.declared.Header.{Header}
 use Rattle.bath_file.specs.Layout.{header_length}
-use Rattle.bath_file.specs.File.{header_in, file_answer, ReadIs}
+use Rattle.bath_file.specs.File.{header_in, file_answer}
 use Rattle.store.specs.Operations.{KeepIs}
 
 -- ---- calls
 
--- an operation, and all that its call is given: numbers, settings, running totals, and the contents of every buffer
+-- an operation, and all that its call is given: numbers, settings, and the contents of every buffer
 pub data Operation : Type 0 where
   check_set : ℕ → ℕ → List ℕ → Operation
   totals : ℕ → ℕ → List ℕ → Operation
   scatter : ℕ → ℕ → List ℕ → Grids → Operation
   adding_scatter : ℕ → ℕ → List ℕ → Grids → Operation
   update : Settings → Grids → Operation
-  gather : ℕ → ℕ → List ℕ → List ℤ → List ℤ → Totals → Operation
-  step : Settings → List ℕ → Grids → Totals → Operation
-  run : Settings → ℕ → List ℕ → Grids → Totals → Operation
-  read_file : List ℕ → Totals → Operation
+  gather : ℕ → ℕ → List ℕ → List ℤ → List ℤ → Operation
+  step : Settings → List ℕ → Grids → Operation
+  run : Settings → ℕ → List ℕ → Grids → Operation
+  read_file : List ℕ → Operation
   -- the store, the name and the file
   keep : List ℕ → List ℕ → List ℕ → Operation
 
@@ -52,24 +52,23 @@ Told (totals nx ny records) = Answer Totals
 Told (scatter nx ny records g) = Answer Unit
 Told (adding_scatter nx ny records g) = Answer Unit
 Told (update s g) = Answer Unit
-Told (gather nx ny records ux uy t) = Answer Unit
-Told (step s records g t) = Answer Unit
-Told (run s steps records g t) = Completion
-Told (read_file bytes t) = Answer Header
+Told (gather nx ny records ux uy) = Answer Unit
+Told (step s records g) = Answer Unit
+Told (run s steps records g) = Completion
+Told (read_file bytes) = Answer Header
 Told (keep store name file) = Answer Unit
 
--- what it leaves in the buffers that it may write: grids, both axes of a grid, records, records and grids, or the store; and the running
--- totals
+-- what it leaves in the buffers that it may write: grids, both axes of a grid, records, records and grids, or the store
 abbrev pub Left : Operation → Type 0
 Left (check_set nx ny records) = Unit
 Left (totals nx ny records) = Unit
 Left (scatter nx ny records g) = Grids
 Left (adding_scatter nx ny records g) = Grids
 Left (update s g) = BothAxes
-Left (gather nx ny records ux uy t) = List ℕ × Totals
-Left (step s records g t) = (List ℕ × Grids) × Totals
-Left (run s steps records g t) = (List ℕ × Grids) × Totals
-Left (read_file bytes t) = Totals
+Left (gather nx ny records ux uy) = List ℕ
+Left (step s records g) = List ℕ × Grids
+Left (run s steps records g) = List ℕ × Grids
+Left (read_file bytes) = Unit
 Left (keep store name file) = List ℕ
 
 -- the operation's own promise to a caller
@@ -81,12 +80,12 @@ Promised caller (scatter nx ny records g) told left =
 Promised caller (adding_scatter nx ny records g) told left =
     AddingIs caller nx ny records g.mass g.x g.y told left.mass left.x left.y
 Promised caller (update s g) told left = UpdateIs caller s g.mass g.x g.y told left.x left.y
-Promised caller (gather nx ny records ux uy t) told left = GatherIs caller nx ny records ux uy t told left.0 left.1
-Promised caller (step s records g t) told left =
-    Sees (step_after caller s records g t) records t told left.0.0 left.0.1.mass left.0.1.x left.0.1.y left.1
-Promised caller (run s steps records g t) told left =
-    Sees (run_after caller s steps records g t) records t told left.0.0 left.0.1.mass left.0.1.x left.0.1.y left.1
-Promised caller (read_file bytes t) told left = ReadIs caller bytes t told left
+Promised caller (gather nx ny records ux uy) told left = GatherIs caller nx ny records ux uy told left
+Promised caller (step s records g) told left =
+    Sees (step_after caller s records g) told left.0 left.1.mass left.1.x left.1.y
+Promised caller (run s steps records g) told left =
+    Sees (run_after caller s steps records g) told left.0 left.1.mass left.1.x left.1.y
+Promised caller (read_file bytes) told left = told ≡ file_answer caller bytes
 Promised caller (keep store name file) told left = KeepIs caller store name file told left
 
 -- an outcome: what is told and left, as promised
@@ -111,10 +110,10 @@ Within caller (totals nx ny records) = CallerLimits caller nx ny (record_count r
 Within caller (scatter nx ny records g) = CallerLimits caller nx ny (record_count records)
 Within caller (adding_scatter nx ny records g) = CallerLimits caller nx ny (record_count records)
 Within caller (update s g) = CallerLimits caller s.nx s.ny 0
-Within caller (gather nx ny records ux uy t) = CallerLimits caller nx ny (record_count records)
-Within caller (step s records g t) = CallerLimits caller s.nx s.ny (record_count records)
-Within caller (run s steps records g t) = CallerLimits caller s.nx s.ny (record_count records)
-Within caller (read_file bytes t) = CallerLimits caller (header_of bytes).nx (header_of bytes).ny (header_of bytes).count
+Within caller (gather nx ny records ux uy) = CallerLimits caller nx ny (record_count records)
+Within caller (step s records g) = CallerLimits caller s.nx s.ny (record_count records)
+Within caller (run s steps records g) = CallerLimits caller s.nx s.ny (record_count records)
+Within caller (read_file bytes) = CallerLimits caller (header_of bytes).nx (header_of bytes).ny (header_of bytes).count
 Within caller (keep store name file) = CallerLimits caller (header_of file).nx (header_of file).ny (header_of file).count
 
 -- the same answer, and the same bytes and numbers in every buffer
@@ -135,23 +134,23 @@ refused_with (totals nx ny records) n k = refused n k
 refused_with (scatter nx ny records g) n k = refused n k
 refused_with (adding_scatter nx ny records g) n k = refused n k
 refused_with (update s g) n k = refused n k
-refused_with (gather nx ny records ux uy t) n k = refused n k
-refused_with (step s records g t) n k = refused n k
-refused_with (run s steps records g t) n k = record { completed = 0; stop = refused n k }
-refused_with (read_file bytes t) n k = refused n k
+refused_with (gather nx ny records ux uy) n k = refused n k
+refused_with (step s records g) n k = refused n k
+refused_with (run s steps records g) n k = record { completed = 0; stop = refused n k }
+refused_with (read_file bytes) n k = refused n k
 refused_with (keep store name file) n k = refused n k
 
--- what those buffers and the totals held
+-- what those buffers held
 abbrev pub held : (o : Operation) → Left o
 held (check_set nx ny records) = tt
 held (totals nx ny records) = tt
 held (scatter nx ny records g) = g
 held (adding_scatter nx ny records g) = g
 held (update s g) = both_axes g.x g.y
-held (gather nx ny records ux uy t) = (records, t)
-held (step s records g t) = ((records, g), t)
-held (run s steps records g t) = ((records, g), t)
-held (read_file bytes t) = t
+held (gather nx ny records ux uy) = records
+held (step s records g) = (records, g)
+held (run s steps records g) = (records, g)
+held (read_file bytes) = tt
 held (keep store name file) = store
 
 -- refused, and nothing has changed

@@ -7,7 +7,6 @@ use lines::lists::within;
 use lines::print;
 use lines::words::{integer, natural, size};
 use particle::NUMBERS;
-use totals::Totals;
 
 fn weights() {
     let mut values = [7; 3];
@@ -65,29 +64,21 @@ fn looking(name: u64, bytes: &[u8]) {
 }
 
 // Those that may change them, those that have two callers, and those on the store.
-fn changing(
-    name: u64,
-    caller: Caller,
-    stored: Totals,
-    bytes: &mut [u8],
-    lent: usize,
-    store: &mut [u8],
-) {
+fn changing(name: u64, caller: Caller, bytes: &mut [u8], lent: usize, store: &mut [u8]) {
     match name {
         names::WRITE => write_record(bytes),
         names::HEADER => write_header(bytes),
         _ => {
-            caller_cases::call(name, caller, stored, bytes);
-            store_cases::call(name, caller, stored, lent, store, bytes);
+            caller_cases::call(name, caller, bytes);
+            store_cases::call(name, caller, lent, store, bytes);
         }
     }
 }
 
-// Calls an operation for a caller, with these running totals, the bytes up to the end, and as much of the store as is lent.
+// Calls an operation for a caller, with the bytes up to the end, and with as much of the store as is lent.
 pub fn call(
     name: u64,
     caller: Caller,
-    stored: Totals,
     end: usize,
     bytes: &mut [u8],
     lent: usize,
@@ -95,5 +86,5 @@ pub fn call(
 ) {
     let n = within(end, bytes.len());
     looking(name, &bytes[..n]);
-    changing(name, caller, stored, &mut bytes[..n], lent, store);
+    changing(name, caller, &mut bytes[..n], lent, store);
 }

@@ -5,11 +5,9 @@ mod names;
 
 use limits::Caller;
 use lines::words;
-use lines::words::integer;
 use particle::RECORD_LENGTH;
 use particles::SET_LENGTH;
 use store::STORE_LENGTH;
-use totals::Totals;
 
 // Room for one record more than a set may have.
 const BYTES: usize = SET_LENGTH + RECORD_LENGTH;
@@ -29,28 +27,12 @@ fn called_by(name: u64, caller: Caller) -> Caller {
     }
 }
 
-// The running totals that calls are lent from a line on: those that it gives, and else those before.
-fn stored_by(name: u64, stored: Totals) -> Totals {
-    match name {
-        names::STORED => Totals {
-            mass: integer(),
-            px: integer(),
-            py: integer(),
-            spin: integer(),
-            motion: integer(),
-            marks: integer(),
-        },
-        _ => stored,
-    }
-}
-
 // The lines, one after the other. The records and their end are kept from line to line, and so are the store, how much of it is
-// lent, who calls, and the running totals that the calls are lent.
+// lent, and who calls.
 fn serve(bytes: &mut [u8], store: &mut [u8]) {
     let mut end = 0;
     let mut lent = STORE_LENGTH;
     let mut caller = Caller::Bench;
-    let mut stored = totals::none();
     let mut left = MOST_LINES;
     while 0 < left {
         let word = words::read_word();
@@ -58,13 +40,12 @@ fn serve(bytes: &mut [u8], store: &mut [u8]) {
             return;
         }
         caller = called_by(word.bits, caller);
-        stored = stored_by(word.bits, stored);
         if word.bits == names::RECORDS {
             end = lines::records::read(bytes);
         } else if word.bits == names::STORE {
             lent = lines::stores::read(store);
         } else {
-            calls::call(word.bits, caller, stored, end, bytes, lent, store);
+            calls::call(word.bits, caller, end, bytes, lent, store);
         }
         left -= 1;
     }

@@ -3,8 +3,6 @@ pub const RECORDS: u64 = 0x7265636f726473;
 
 pub const STORE: u64 = 0x73746f7265;
 
-pub const STORED: u64 = 0x73746f726564;
-
 pub const BENCH: u64 = 0x62656e6368;
 
 pub const PAGE: u64 = 0x70616765;

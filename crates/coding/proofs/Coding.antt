@@ -5,17 +5,11 @@
 --     coded-told          an answer's number is that of what is told of it
 --     gave, kept          the values after a result; and after a refusal
 --     tells-done, tells-refused   the same without values
---     carried             what a step or run shows, with the caller's own numbers
 -- Assumes nothing.
 use mathlib.Core.Path.{◌≡◌, refl, sym, ap, subst, ◌∙◌}
-use mathlib.Core.List.{List}
 use Prim.Native.Nat.{ℕ, ◌+◌, ◌*◌, ◌<◌}
-use lib.IntN.{ℤ}
 use Rattle.refusal.specs.declared.Refusal.{Refusal}
 use Rattle.refusal.specs.Refused.{Answer, gives, refused, refused_by, number, place, either, told_of}
-use Rattle.settings.specs.declared.Settings.{Settings}
-use Rattle.totals.specs.declared.Totals.{Totals}
-use Rattle.simulation.specs.Step.{After, Sees}
 use Rattle.coding.specs.Coded.{coded, Gives, Tells}
 
 pub data Placed {A : Type 0} : Answer A → Type 0 where
@@ -55,9 +49,3 @@ module _ {Promise : Answer Unit → Type 0} {told : Answer Unit} (promise : Prom
 
   pub tells-refused : (e : Refusal) {r : ℕ} → told ≡ refused_by e → r ≡ number e * 4294967296 + place e → Tells Promise r
   tells-refused e by is = record { told = told; promise = promise; coded-is = is ∙ sym (ap coded by) }
-
--- ---- settings and running totals that came through the caller's numbers
-
-pub carried : {A : Type 0} (after : Settings → Totals → After A) (records : List ℕ) {s s' : Settings} {t t' sums sums' : Totals} {told : A} {bytes mass : List ℕ} {x y : List ℤ} → s ≡ s' → t ≡ t' → sums ≡ sums' → Sees (after s t) records t told bytes mass x y sums → Sees (after s' t') records t' told bytes mass x y sums'
-carried after records {told = told} {bytes = bytes} {mass = mass} {x = x} {y = y} e f g h =
-    subst (λ (p : Settings × (Totals × Totals)). Sees (after p.0 p.1.0) records p.1.0 told bytes mass x y p.1.1) (λ i. (e i, (f i, g i))) h

@@ -23,10 +23,7 @@ use Rattle.particle.specs.declared.Particle.{Particle}
 use Rattle.particle.specs.Layout.{record_length}
 use Rattle.particle.specs.Record.{particle_of, read_answer, read_particle, lowest_velocity, lowest_affine, write_answer, write_particle, valid_velocities, valid_affines, valid_positions}
 use Rattle.particles.specs.Set.{on_grid, checked_particle, set_from, set_of, record_at, record_count, too_many, set_answer, check_answer, valid_size, valid_length, records_of}
-use Rattle.totals.specs.declared.Totals.{Totals}
 use Rattle.totals.specs.Totals.{totals_answer}
-use Rattle.totals.specs.Running.{valid_totals, checked_totals, then_totals}
-use Rattle.totals.proofs.Stored.{then-passed}
 use Rattle.particles.proofs.Checks.{size-limits, length-limits}
 use Rattle.particles.proofs.Accepted.{accepted-limits}
 use Rattle.spline.specs.Answers.{weights_answer}
@@ -40,7 +37,7 @@ use Rattle.entry.specs.declared.Buffers.TheVariants.{Two, Three}
 use Rattle.entry.specs.Checks.{are_long, both_within}
 use Rattle.entry.specs.Entry.{checked_forces, begin_answer, entry_answer}
 use Rattle.entry.proofs.Entry.{passed-checks, accepted}
-use Rattle.transfer.specs.Transfer.{scatter_of, velocity_check, velocity_checks, checked_set, gather_entry, gather_answer}
+use Rattle.transfer.specs.Transfer.{scatter_of, velocity_check, velocity_checks, checked_set, gather_answer}
 use Rattle.adding.specs.Adding as adding
 use Rattle.settings.specs.declared.Settings.{Settings}
 use Rattle.simulation.specs.Step.{buffers_of, nodes_of, move_by, stepped_by, step_of, step_by, step_entry, step_from, step_after}
@@ -77,11 +74,6 @@ next (refused n k) f (refuses h) g = refuses h
 
 few : {n : ℕ} → n ≤ most_records → 0 + n < 4294967296
 few h = omega arith
-
--- 25 has no place
-and-totals : (totals : Totals) (a : Answer (List Particle)) → Placed a → Placed (then_totals totals a)
-unfolding then_totals checked_totals
-and-totals totals a h = next a _ h (λ ps _. plain (not (valid_totals totals)) 25 _ (λ _. accepts))
 
 -- ---- records
 
@@ -255,11 +247,10 @@ module _ (caller : Caller) (nx ny : ℕ) (records : List ℕ) (ux uy : List ℤ)
       let t = went_on (velocity_checks (nx * ny) ux uy) (λ _. gives s.0) s.2 in
       subst (λ l. length l ≤ most_records) (same-result t.2) (few-entered caller (still nx ny) buffers 0 records s.1).count
 
-  pub gather : (totals : Totals) → Placed (gather_answer caller nx ny records ux uy totals)
-  unfolding gather_entry
-  gather totals =
-      next (then_totals totals (checked_set caller nx ny records ux uy)) _ (and-totals totals (checked_set caller nx ny records ux uy) ready)
-      (λ ps e. moves nx ny (gathered axis_weight nx ny ux uy) 0 ps _ (few (ready-few (then-passed totals _ e).0)) accepts)
+  pub gather : Placed (gather_answer caller nx ny records ux uy)
+  gather =
+      next (checked_set caller nx ny records ux uy) _ ready
+      (λ ps e. moves nx ny (gathered axis_weight nx ny ux uy) 0 ps _ (few (ready-few e)) accepts)
 
 -- what is told of an answer has its place
 pub told : {A : Type 0} (a : Answer A) → Placed a → Placed (told_of a)
@@ -267,14 +258,14 @@ told a h = next a _ h (λ _ _. accepts)
 
 -- ---- steps and runs
 
-module _ (caller : Caller) (s : Settings) (records : List ℕ) (grids : Grids) (totals : Totals) where
-  step-entry : Placed (step_entry caller s records grids totals)
+module _ (caller : Caller) (s : Settings) (records : List ℕ) (grids : Grids) where
+  step-entry : Placed (step_entry caller s records grids)
   unfolding step_entry
-  step-entry = and-totals totals _ (entry caller s (buffers_of grids) 0 records)
+  step-entry = entry caller s (buffers_of grids) 0 records
 
-  run-entry : (steps : ℕ) → Placed (run_entry caller s steps records grids totals)
+  run-entry : (steps : ℕ) → Placed (run_entry caller s steps records grids)
   unfolding run_entry
-  run-entry steps = and-totals totals _ (entry caller s (buffers_of grids) steps records)
+  run-entry steps = entry caller s (buffers_of grids) steps records
 
 module _ (caller : Caller) (s : Settings) where
   one-step : (ps : List Particle) → length ps ≤ most_records → Placed (step_of s ps)
@@ -285,16 +276,16 @@ module _ (caller : Caller) (s : Settings) where
   unfolding stepped_by
   same_count ps h e = subst (λ l. length l ≤ most_records) (step-result axis_weight D s ps e).1 (rw length-map h)
 
-  pub step : (records : List ℕ) (grids : Grids) (totals : Totals) → Placed (step_after caller s records grids totals).answer
+  pub step : (records : List ℕ) (grids : Grids) → Placed (step_after caller s records grids).answer
   unfolding step_after step_from
-  step records grids totals = go (step_entry caller s records grids totals) refl (step-entry caller s records grids totals)
+  step records grids = go (step_entry caller s records grids) refl (step-entry caller s records grids)
     where
       after : (ps : List Particle) (a : Answer (List Particle)) → step_of s ps ≡ a → Placed a → Placed (step_from s records ps).answer
       after ps (gives qs) e h = rw e accepts
       after ps (refused n k) e (refuses h) = rw e (refuses h)
 
-      go : (a : Answer (List Particle)) → step_entry caller s records grids totals ≡ a → Placed a → Placed (step_after caller s records grids totals).answer
-      go (gives ps) e h = rw e (after ps (step_of s ps) refl (one-step ps (ready-step caller s records totals grids e).limits.count))
+      go : (a : Answer (List Particle)) → step_entry caller s records grids ≡ a → Placed a → Placed (step_after caller s records grids).answer
+      go (gives ps) e h = rw e (after ps (step_of s ps) refl (one-step ps (ready-step caller s records grids e).limits.count))
       go (refused n k) e (refuses h) = rw e (refuses h)
 
   run-from : (n : ℕ) (records : List ℕ) (ps : List Particle) (grids : Grids) → length ps ≤ most_records → Placed (run_from s n records ps grids).answer.stop
@@ -306,12 +297,12 @@ module _ (caller : Caller) (s : Settings) where
       go further (gives qs) e p = rw e (further qs (same_count ps h e))
       go further (refused m k) e (refuses p) = rw e (refuses p)
 
-  pub run : (steps : ℕ) (records : List ℕ) (grids : Grids) (totals : Totals) → Placed (run_after caller s steps records grids totals).answer.stop
+  pub run : (steps : ℕ) (records : List ℕ) (grids : Grids) → Placed (run_after caller s steps records grids).answer.stop
   unfolding run_after
-  run steps records grids totals = go (run_entry caller s steps records grids totals) refl (run-entry caller s records grids totals steps)
+  run steps records grids = go (run_entry caller s steps records grids) refl (run-entry caller s records grids steps)
     where
-      go : (a : Answer (List Particle)) → run_entry caller s steps records grids totals ≡ a → Placed a → Placed (run_after caller s steps records grids totals).answer.stop
-      go (gives ps) e h = rw e (run-from steps records ps grids (ready-run caller s records totals steps grids e).limits.count)
+      go : (a : Answer (List Particle)) → run_entry caller s steps records grids ≡ a → Placed a → Placed (run_after caller s steps records grids).answer.stop
+      go (gives ps) e h = rw e (run-from steps records ps grids (ready-run caller s records steps grids e).limits.count)
       go (refused n k) e (refuses h) = rw e (refuses h)
 
 -- ---- files

@@ -1,13 +1,10 @@
-// A run as programs in other languages see it: its answer as one number, the completed steps through the caller's number, and the
-// running totals through the caller's array.
+// A run as programs in other languages see it: its answer as one number, and the completed steps through the caller's number.
 ghost use Rattle.apic.specs.Step.{grids_of};
 ghost use Rattle.settings.specs.Settings.{settings_with};
-ghost use Rattle.totals.specs.Running.{of_sums};
 ghost use Rattle.coding.specs.Runs.{RunTells};
 
 use limits::Caller;
 use simulation::Ran;
-use totals::SUMS;
 use wide::answer;
 
 // The number of completed steps is told also where a refusal stopped the run. `gondwize_run` and `gondwize_page_run` call it.
@@ -26,19 +23,13 @@ pub fn run_told(
     px: &mut [i64],
     py: &mut [i64],
     completed: &mut u64,
-    totals: &mut [i64; SUMS],
 ) -> u64
     ensures { RunTells caller (settings_with nx ny gx gy kind width drag) steps
-        records.old (grids_of mass.old px.old py.old) (of_sums totals.old) result
-        records.new mass.new px.new py.new completed.new (of_sums totals.new) }
+        records.old (grids_of mass.old px.old py.old) result
+        records.new mass.new px.new py.new completed.new }
 {
     let settings = settings::of_numbers(nx, ny, gx, gy, kind, width, drag);
-    let lent = totals_share::of_sums(*totals);
-    let outcome = run::run(caller, settings, steps, records, mass, px, py, lent);
-    let told = outcome.answer;
-    let sums = outcome.totals;
-    *totals = totals_share::sums_of(sums);
-    match told {
+    match run::run(caller, settings, steps, records, mass, px, py) {
         Ran::Stopped(count, refusal) => {
             *completed = count as u64;
             answer::code(refusal)

@@ -3,7 +3,6 @@
 --     again         what a completed step leaves passes them
 -- Assumes nothing.
 use mathlib.Core.Path.{◌≡◌, refl, sym, ap, ◌∙◌, subst}
-use mathlib.Core.Bool.{true}
 use mathlib.Core.List.{List}
 use Prim.Native.Nat.{ℕ, suc, ◌≤◌, ◌<◌}
 use native.Mathlib.Omega.{arith}
@@ -21,9 +20,6 @@ use Rattle.particles.proofs.Accepted.{accepted-within, within-accepted}
 use Rattle.entry.specs.Entry.{begin_answer, entry_answer}
 use Rattle.entry.proofs.Entry.{three-long, enters}
 use Rattle.settings.specs.declared.Settings.{Settings}
-use Rattle.totals.specs.declared.Totals.{Totals}
-use Rattle.totals.specs.Running.{valid_totals, then_totals}
-use Rattle.totals.proofs.Stored.{then-done}
 use Rattle.simulation.specs.Step.{seen, After, buffers_of, move_by, stepped_by, step_of, nodes_of, step_entry, step_from, step_after}
 use Rattle.simulation.specs.Run.{Completion, after_one, run_from, run_by, run_entry, run_after}
 use Rattle.apic.proofs.Spline.{spline-lawful}
@@ -36,45 +32,45 @@ use Rattle.composition.proofs.Entry.{step_from, known}
 abbrev stopped : ℕ → ℕ → List ℕ → Grids → After Completion
 stopped k p records grids = seen (record { completed = 0; stop = refused k p }) records grids
 
-module _ (caller : Caller) (s : Settings) (records : List ℕ) (grids : Grids) (totals : Totals) where
-  run-entry : (n : ℕ) → n ≤ most_steps → run_entry caller s n records grids totals ≡ step_entry caller s records grids totals
+module _ (caller : Caller) (s : Settings) (records : List ℕ) (grids : Grids) where
+  run-entry : (n : ℕ) → n ≤ most_steps → run_entry caller s n records grids ≡ step_entry caller s records grids
   unfolding run_entry step_entry entry_answer begin_answer
   run-entry n h = rw (le-ltb most_steps n h)
 
-  run-from : (n : ℕ) → n ≤ most_steps → {a : Answer (List Particle)} → step_entry caller s records grids totals ≡ a → run_after caller s n records grids totals ≡ either a (λ ps. run_from s n records ps grids) (λ k p. stopped k p records grids)
+  run-from : (n : ℕ) → n ≤ most_steps → {a : Answer (List Particle)} → step_entry caller s records grids ≡ a → run_after caller s n records grids ≡ either a (λ ps. run_from s n records ps grids) (λ k p. stopped k p records grids)
   unfolding run_after
   run-from n h e = ap (λ a. either a (λ ps. run_from s n records ps grids) (λ k p. stopped k p records grids)) (run-entry n h ∙ e)
 
-module _ (caller : Caller) (s : Settings) (records : List ℕ) (grids : Grids) (totals : Totals) where
-  module _ {ps : List Particle} (e : step_entry caller s records grids totals ≡ gives ps) {qs : List Particle} (m : step_of s ps ≡ gives qs) where
+module _ (caller : Caller) (s : Settings) (records : List ℕ) (grids : Grids) where
+  module _ {ps : List Particle} (e : step_entry caller s records grids ≡ gives ps) {qs : List Particle} (m : step_of s ps ≡ gives qs) where
     after : SetLimits s.nx s.ny qs
-    after = subst (SetLimits s.nx s.ny) (step-result axis_weight D s ps m).1 (limits-after axis_weight D s ps (completed axis_weight D s ps (known caller s records grids totals e).limits m))
+    after = subst (SetLimits s.nx s.ny) (step-result axis_weight D s ps m).1 (limits-after axis_weight D s ps (completed axis_weight D s ps (known caller s records grids e).limits m))
 
-    again : (then : Totals) → valid_totals then ≡ true → step_entry caller s (records_of qs) (nodes_of s ps) then ≡ gives qs
+    again : step_entry caller s (records_of qs) (nodes_of s ps) ≡ gives qs
     unfolding step_entry stepped_by
-    again then valid =
-        let k = known caller s records grids totals e in
+    again =
+        let k = known caller s records grids e in
         let g = grid-limits spline-lawful s ps k.limits k.accepted.forces in
         let v = velocity-limits spline-lawful s ps k.limits k.accepted.forces in
-        then-done then (enters caller s (buffers_of (nodes_of s ps)) 0 (records_of qs)
+        enters caller s (buffers_of (nodes_of s ps)) 0 (records_of qs)
         (within-accepted caller s.nx s.ny qs after (subst (CallerLimits caller s.nx s.ny) as_many (accepted-within caller s.nx s.ny records k.accepted.own)))
         (three-long (record { mass-is = g.within.mass-length; x-is = (v along_x).count; y-is = (v along_y).count }))
         k.accepted.forces
-        (omega arith)) valid
+        (omega arith)
       where
         as_many : length ps ≡ length qs
         as_many = sym (length-map ps (move_by axis_weight D s ps)) ∙ ap length (step-result axis_weight D s ps m).1
 
   -- by what the first step answers
-  module _ (n : ℕ) (few : n < most_steps) (then : Totals) (valid : valid_totals then ≡ true) where
-    tried : {ps : List Particle} → step_entry caller s records grids totals ≡ gives ps → (a : Answer (List Particle)) → step_of s ps ≡ a → run_from s (suc n) records ps grids ≡ then_run caller s n then (step_from s records ps)
+  module _ (n : ℕ) (few : n < most_steps) where
+    tried : {ps : List Particle} → step_entry caller s records grids ≡ gives ps → (a : Answer (List Particle)) → step_of s ps ≡ a → run_from s (suc n) records ps grids ≡ then_run caller s n (step_from s records ps)
     unfolding run_by step_from
-    tried {ps} e (gives qs) m = rw m (ap after_one (sym (run-from caller s (records_of qs) (nodes_of s ps) then n (omega arith) (again e m then valid))))
+    tried {ps} e (gives qs) m = rw m (ap after_one (sym (run-from caller s (records_of qs) (nodes_of s ps) n (omega arith) (again e m))))
     tried e (refused k p) m = rw m
 
-    by-entry : (a : Answer (List Particle)) → step_entry caller s records grids totals ≡ a → run_after caller s (suc n) records grids totals ≡ then_run caller s n then (step_after caller s records grids totals)
-    by-entry (gives ps) e = run-from caller s records grids totals (suc n) few e ∙ tried e (step_of s ps) refl ∙ sym (ap (then_run caller s n then) (step_from caller s records grids totals e))
-    by-entry (refused k p) e = run-from caller s records grids totals (suc n) few e ∙ sym (ap (then_run caller s n then) (step_from caller s records grids totals e))
+    by-entry : (a : Answer (List Particle)) → step_entry caller s records grids ≡ a → run_after caller s (suc n) records grids ≡ then_run caller s n (step_after caller s records grids)
+    by-entry (gives ps) e = run-from caller s records grids (suc n) few e ∙ tried e (step_of s ps) refl ∙ sym (ap (then_run caller s n) (step_from caller s records grids e))
+    by-entry (refused k p) e = run-from caller s records grids (suc n) few e ∙ sym (ap (then_run caller s n) (step_from caller s records grids e))
 
 pub run-is-steps : RunIsSteps
-run-is-steps caller s n records grids totals then few valid = by-entry caller s records grids totals n few then valid (step_entry caller s records grids totals) refl
+run-is-steps caller s n records grids few = by-entry caller s records grids n few (step_entry caller s records grids) refl

@@ -32,11 +32,8 @@ use Rattle.entry.specs.declared.Buffers.TheVariants.{Two}
 use Rattle.entry.specs.Checks.{are_long}
 use Rattle.entry.proofs.Entry.{both-within, enters}
 use Rattle.entry.specs.Entry.{entry_answer}
-use Rattle.transfer.specs.Transfer.{scatter_answer, velocity_check, velocity_checks, checked_set, gather_entry, move_answer, gather_answer, Fills, Moves}
+use Rattle.transfer.specs.Transfer.{scatter_answer, velocity_check, velocity_checks, checked_set, move_answer, gather_answer, Fills, Moves}
 use Rattle.settings.specs.declared.Settings.{Settings}
-use Rattle.totals.specs.declared.Totals.{Totals}
-use Rattle.totals.specs.Running.{changed}
-use Rattle.totals.proofs.Stored.{then-done}
 use Rattle.simulation.specs.Step.{seen, masses, masses_by, momenta, momenta_by, updated_velocities, velocities_by, stepped_by, step_of, step_by, nodes_of, step_entry, step_from, step_after}
 use Rattle.simulation.proofs.Refusals as refusals
 use Rattle.simulation.proofs.Refusals.{velocity-limits}
@@ -58,9 +55,9 @@ velocities-pass {nx} {ny} {ux} {uy} a b =
 
 -- ---- the three calls
 
-module _ (caller : Caller) (s : Settings) (records : List ℕ) (lent : Grids) (totals : Totals) {ps : List Particle} (e : step_entry caller s records lent totals ≡ gives ps) where
-  abbrev k : Known caller s records lent totals ps
-  k = known caller s records lent totals e
+module _ (caller : Caller) (s : Settings) (records : List ℕ) (lent : Grids) {ps : List Particle} (e : step_entry caller s records lent ≡ gives ps) where
+  abbrev k : Known caller s records lent ps
+  k = known caller s records lent e
 
   -- the same set, with buffers of the grid's size, no gravity, open edges and no drag
   entry-is : (buffers : Buffers) → are_long (s.nx * s.ny) buffers ≡ true → entry_answer caller (still s.nx s.ny) buffers 0 records ≡ gives ps
@@ -79,24 +76,20 @@ module _ (caller : Caller) (s : Settings) (records : List ℕ) (lent : Grids) (t
   update-is : update_answer caller s (masses s ps) (momenta s along_x ps) (momenta s along_y ps) ≡ done
   update-is = refusals.update-done caller s ps (entered caller s.nx s.ny records k.accepted.own).size k.limits k.accepted.forces
 
-  checked : checked_set caller s.nx s.ny records (u along_x) (u along_y) ≡ gives ps
-  unfolding checked_set
-  checked =
+  gather-is : gather_answer caller s.nx s.ny records (u along_x) (u along_y) ≡ step_of s ps
+  unfolding checked_set step_by stepped_by
+  gather-is =
       let v = velocity-limits spline-lawful s ps k.limits k.accepted.forces in
-      ap (λ a. and_then a (λ qs. and_then (velocity_checks (s.nx * s.ny) (u along_x) (u along_y)) (λ _. gives qs)))
+      ap (λ a. and_then (and_then a (λ qs. and_then (velocity_checks (s.nx * s.ny) (u along_x) (u along_y)) (λ _. gives qs))) (λ qs. move_answer s.nx s.ny (u along_x) (u along_y) qs))
       (entry-is (Two (length (u along_x)) (length (u along_y))) (ap₂ ◌&&◌ (eq-eqb (length (u along_x)) (s.nx * s.ny) (v along_x).count) (eq-eqb (length (u along_y)) (s.nx * s.ny) (v along_y).count)))
-      ∙ ap (λ a. and_then a (λ _. gives ps)) (velocities-pass (v along_x) (v along_y))
-
-  gather-is : gather_answer caller s.nx s.ny records (u along_x) (u along_y) totals ≡ step_of s ps
-  unfolding gather_entry step_by stepped_by
-  gather-is = ap (λ a. and_then a (λ qs. move_answer s.nx s.ny (u along_x) (u along_y) qs)) (then-done totals checked k.stored)
+      ∙ ap (λ a. and_then (and_then a (λ _. gives ps)) (λ qs. move_answer s.nx s.ny (u along_x) (u along_y) qs)) (velocities-pass (v along_x) (v along_y))
 
   -- what is told and left of the moved particles
   left : (grids : Grids) (a : Answer (List Particle)) {told : Answer Unit} {records' : List ℕ} → Moves a records told records' → either a (λ qs. seen done (records_of qs) grids) (λ n k. seen (refused n k) records grids) ≡ seen told records' grids
   left grids (gives qs) m = ap₂ (λ t r. seen t r grids) (sym m.answer) (sym m.left_is)
   left grids (refused n k) m = ap₂ (λ t r. seen t r grids) (sym m.answer) (sym m.left_is)
 
-  module _ (c : ThreeCalls caller s records lent totals) where
+  module _ (c : ThreeCalls caller s records lent) where
     filled : Fills s.nx s.ny (gives ps) lent.mass lent.x lent.y c.scattered c.mass c.px c.py
     filled = rw scatter-is at c.scatter
 
@@ -135,27 +128,27 @@ module _ (caller : Caller) (s : Settings) (records : List ℕ) (lent : Grids) (t
     moves : Moves (step_of s ps) records c.gathered c.moved
     moves =
         subst (λ a. Moves a records c.gathered c.moved)
-        (ap₂ (λ ux uy. gather_answer caller s.nx s.ny records ux uy totals) ux-is uy-is ∙ gather-is) c.gather.moves
+        (ap₂ (gather_answer caller s.nx s.ny records) ux-is uy-is ∙ gather-is) c.gather
 
     grids-are : nodes_of s ps ≡ record { mass = c.mass; x = c.ux; y = c.uy }
     grids-are = sym (rw (mass-is, ux-is, uy-is))
 
-    leaves : step_after caller s records lent totals ≡ seen c.gathered c.moved (record { mass = c.mass; x = c.ux; y = c.uy })
+    leaves : step_after caller s records lent ≡ seen c.gathered c.moved (record { mass = c.mass; x = c.ux; y = c.uy })
     unfolding step_from
     leaves =
-        step_from caller s records lent totals e
+        step_from caller s records lent e
         ∙ left (nodes_of s ps) (step_of s ps) moves
         ∙ ap (seen c.gathered c.moved) grids-are
 
-    is-step : IsStep caller s records lent totals c
-    is-step = record { scatter-done = filled.answer; update-done = c.update.answer ∙ ap told_of accepted; leaves = leaves; totals-same = c.gather.totals-are ∙ sym (ap (λ r. changed totals records r.records) leaves) }
+    is-step : IsStep caller s records lent c
+    is-step = record { scatter-done = filled.answer; update-done = c.update.answer ∙ ap told_of accepted; leaves = leaves }
 
 pub step-is-three-calls : StepIsThreeCalls
-step-is-three-calls caller s records lent totals ps e c = is-step caller s records lent totals e c
+step-is-three-calls caller s records lent ps e c = is-step caller s records lent e c
 
 -- the answers and buffers that the promises name
 pub three-calls-exist : ThreeCallsExist
-three-calls-exist caller s records lent totals =
+three-calls-exist caller s records lent =
     record {
       scattered = _;
       mass = _;
@@ -168,6 +161,5 @@ three-calls-exist caller s records lent totals =
       update = record { answer = refl; left_is = refl };
       gathered = _;
       moved = _;
-      sums = _;
-      gather = record { moves = record { answer = refl; left_is = refl }; totals-are = refl };
+      gather = record { answer = refl; left_is = refl };
     }

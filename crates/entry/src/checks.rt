@@ -39,8 +39,7 @@ pub fn both_within(x: i64, y: i64, most: i64) -> bool
     within(x, most) && within(y, most)
 }
 
-// A number is −most to most. Crate stored_totals calls it too.
-pub fn within(number: i64, most: i64) -> bool
+fn within(number: i64, most: i64) -> bool
     requires { T (non_neg most) }
     ensures { result ≡ leb (nat_abs number) (nat_abs most) }
 {

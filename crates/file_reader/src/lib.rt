@@ -3,15 +3,13 @@ ghost use Rattle.std.specs.Prelude.{◌≡◌, length};
 ghost use Rattle.refusal.specs.Refused.{gives};
 ghost use Rattle.limits.specs.declared.Caller.TheVariants.{Bench};
 ghost use Rattle.bath_file.specs.Layout.{header_length};
-ghost use Rattle.bath_file.specs.File.{header_in, checked_header, spare_is_zero, header_answer, records_answer, file_answer, told_read, ReadIs};
-ghost use Rattle.file_reader.specs.Records.{RecordsRead};
+ghost use Rattle.bath_file.specs.File.{header_in, checked_header, spare_is_zero, header_answer, records_answer, file_answer, told_read};
 
-use bath_file::{FileOutcome, FileRead, HEADER_LENGTH, Header};
+use bath_file::{FileRead, HEADER_LENGTH, Header};
 use limits::Caller;
 use particle::RECORD_LENGTH;
 use particles::Checked;
 use refusal::Refusal;
-use totals::{Totalled, Totals};
 
 // The header that bytes of its length hold: two words of eight bytes, the second from the fourth byte on, and the fields from them.
 // `read_header` calls it with as many, and so does crate store_form.
@@ -61,7 +59,7 @@ pub fn read_header(caller: Caller, bytes: &[u8]) -> FileRead
     }
 }
 
-// The answer for a file with this header: its length, and then its records. `check_file` calls it.
+// The answer for a file with this header: its length, and then its records. `read_file` calls it.
 fn check_records(h: Header, bytes: &[u8]) -> FileRead
     requires { checked_header Bench h (gives h) ≡ gives h }
     ensures { told_read result ≡ records_answer h bytes.now }
@@ -76,50 +74,12 @@ fn check_records(h: Header, bytes: &[u8]) -> FileRead
     }
 }
 
-// The answer for a file, any bytes, without its totals. Whoever keeps a file or looks at a store calls it.
-pub fn check_file(caller: Caller, bytes: &[u8]) -> FileRead
+// Read a file: any bytes. The result is the header's values, and the records lie behind the header.
+pub fn read_file(caller: Caller, bytes: &[u8]) -> FileRead
     ensures { told_read result ≡ file_answer caller bytes.now }
 {
     match read_header(caller, bytes) {
         FileRead::Refused(refusal) => FileRead::Refused(refusal),
         FileRead::Accepted(h) => check_records(h, bytes),
-    }
-}
-
-// The same as `check_records`, and the totals. `read_file` calls it.
-fn read_records(h: Header, bytes: &[u8], totals: Totals) -> FileOutcome
-    requires { checked_header Bench h (gives h) ≡ gives h }
-    ensures { RecordsRead h bytes.now totals result }
-{
-    let count = h.count;
-    if bytes.len() != HEADER_LENGTH + RECORD_LENGTH * count {
-        return FileOutcome {
-            answer: FileRead::Refused(Refusal::Length),
-            totals,
-        };
-    }
-    match totals_set::walk(h.nx, h.ny, bytes, HEADER_LENGTH, count) {
-        Totalled::Sums(sums) => FileOutcome {
-            answer: FileRead::Accepted(h),
-            totals: sums,
-        },
-        Totalled::Refused(refusal) => FileOutcome {
-            answer: FileRead::Refused(refusal),
-            totals,
-        },
-    }
-}
-
-// Read a file: any bytes. The result is the header's values, and the records lie behind the header; the totals are then those of the
-// records. This is the reading by value: crates running_totals, by_caller, store_calls and run_file call it.
-pub fn read_file(caller: Caller, bytes: &[u8], totals: Totals) -> FileOutcome
-    ensures { ReadIs caller bytes.now totals (told_read result.answer) result.totals }
-{
-    match read_header(caller, bytes) {
-        FileRead::Refused(refusal) => FileOutcome {
-            answer: FileRead::Refused(refusal),
-            totals,
-        },
-        FileRead::Accepted(h) => read_records(h, bytes, totals),
     }
 }

@@ -5,7 +5,6 @@ use Rattle.limits.specs.declared.Caller.TheVariants.{Bench}
 use Rattle.settings.specs.declared.Settings.{Settings}
 use Rattle.settings.specs.Settings.{settings_with}
 use Rattle.apic.specs.Step.{Grids, grids_of}
-use Rattle.totals.specs.declared.Totals.{Totals}
 use Rattle.simulation.specs.Step.{After}
 use Rattle.simulation.specs.Run.{Completion, run_after}
 use Rattle.bath_file.specs.declared.Header.{Header}
@@ -36,7 +35,7 @@ pub record RunRoom (mass : List ℕ) (x y : List ℤ) : Type 0 where
   pub y-velocities : most_nodes ≤ length y
 
 -- the bench's run that a header asks for, on the first nodes of such grids
-abbrev pub run_first : Header → List ℕ → Grids → Totals → After Completion
-run_first h records grids totals =
-    let ran = run_after Bench (settings_for h) h.steps records (first_nodes (node_count h) grids) totals in
+abbrev pub run_first : Header → List ℕ → Grids → After Completion
+run_first h records grids =
+    let ran = run_after Bench (settings_for h) h.steps records (first_nodes (node_count h) grids) in
     record { answer = ran.answer; records = ran.records; grids = with_first (node_count h) ran.grids grids }

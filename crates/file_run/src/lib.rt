@@ -9,8 +9,7 @@ ghost use Rattle.file_run.specs.FileRun.{settings_for, most_nodes, RunRoom, run_
 use bath_file::Header;
 use limits::{Caller, MOST_SIDE};
 use settings::Settings;
-use simulation::RunOutcome;
-use totals::Totals;
+use simulation::Ran;
 
 // The nodes of the largest grid.
 pub const MOST_NODES: usize = MOST_SIDE * MOST_SIDE;
@@ -39,12 +38,10 @@ pub fn run_records(
     mass: &mut [u64],
     px: &mut [i64],
     py: &mut [i64],
-    totals: Totals,
-) -> RunOutcome
+) -> Ran
     requires { SizeLimits h.nx h.ny × RunRoom mass.old px.old py.old }
-    ensures { Sees (run_first h records.old (grids_of mass.old px.old py.old) totals)
-        records.old totals
-        (told_ran result.answer) records.new mass.new px.new py.new result.totals }
+    ensures { Sees (run_first h records.old (grids_of mass.old px.old py.old))
+        (told_ran result) records.new mass.new px.new py.new }
 {
     let size = nodes(h.nx, h.ny);
     run::run(
@@ -55,6 +52,5 @@ pub fn run_records(
         &mut mass[..size],
         &mut px[..size],
         &mut py[..size],
-        totals,
     )
 }

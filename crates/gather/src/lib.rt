@@ -2,10 +2,10 @@
 ghost use Rattle.std.specs.Prelude.{◌≡◌, ◌*◌, ◌≤◌, length};
 ghost use Rattle.spline.specs.Spline.{axis_weight};
 ghost use Rattle.particle.specs.Layout.{record_length};
-ghost use Rattle.particles.specs.Set.{record_count};
+ghost use Rattle.particles.specs.Set.{record_count, particles_in};
 ghost use Rattle.unpacked.specs.Unpacked.{per_particle};
-ghost use Rattle.transfer.specs.Transfer.{told_moved, GatherIs};
-ghost use Rattle.transfer.specs.Internal.{part, GatherSet, Gathers, MoveReady, MovedFrom};
+ghost use Rattle.transfer.specs.Transfer.{told_moved, move_answer, Moves, GatherIs};
+ghost use Rattle.transfer.specs.Internal.{part, GatherSet, MovedFrom};
 
 use entry::Begun;
 use gathering::Gathered;
@@ -13,8 +13,7 @@ use limits::Caller;
 use packing::SET_NUMBERS;
 use particle::RECORD_LENGTH;
 use particles::SET_LENGTH;
-use totals::Totals;
-use transfer::{GatherOutcome, Moved, PART_LENGTH, PART_NUMBERS};
+use transfer::{Moved, PART_LENGTH, PART_NUMBERS};
 use unpacked::NUMBERS;
 
 // Moves an accepted set into an array of as many numbers. `gather_scratch` calls it.
@@ -26,7 +25,7 @@ fn gather_into(
     ux: &[i64],
     uy: &[i64],
 ) -> Gathered
-    requires { MoveReady nx ny records.now ux.now uy.now × (record_length * record_count records.now ≡ length records.now) × (length to.old ≡ per_particle * record_count records.now) }
+    requires { GatherSet nx ny records.now ux.now uy.now × (length to.old ≡ per_particle * record_count records.now) }
     ensures { MovedFrom axis_weight 0 nx ny records.now ux.now uy.now to.new result }
 {
     let table = spline::weight_table();
@@ -43,89 +42,54 @@ fn gather_scratch(
     to: &mut [i16],
     ux: &[i64],
     uy: &[i64],
-    totals: Totals,
-) -> GatherOutcome
-    requires { GatherSet nx ny records.old ux.now uy.now totals × (per_particle * record_count records.old ≤ length to.old) }
-    ensures { Gathers nx ny records.old ux.now uy.now totals result records.new }
+) -> Moved
+    requires { GatherSet nx ny records.old ux.now uy.now × (per_particle * record_count records.old ≤ length to.old) }
+    ensures { Moves (move_answer nx ny ux.now uy.now (particles_in records.old)) records.old (told_moved result) records.new }
 {
     let size = NUMBERS * (records.len() / RECORD_LENGTH);
-    let numbers = &mut to[..size];
-    let before = record_sums::sum_set(records);
-    match gather_into(nx, ny, records, numbers, ux, uy) {
-        Gathered::Refused(refusal) => GatherOutcome {
-            answer: Moved::Refused(refusal),
-            totals,
-        },
+    match gather_into(nx, ny, records, &mut to[..size], ux, uy) {
+        Gathered::Refused(refusal) => Moved::Refused(refusal),
         Gathered::Done => {
-            packing::pack_set(numbers, records);
-            GatherOutcome {
-                answer: Moved::Done,
-                totals: stored_totals::bring_up_to_date(
-                    totals,
-                    before,
-                    record_sums::sum_set(records),
-                ),
-            }
+            packing::pack_set(&to[..size], records);
+            Moved::Done
         }
     }
 }
 
 // The same for a set of at most one part, with an array of its own. `gather_set` calls it.
-fn gather_small(
-    nx: usize,
-    ny: usize,
-    records: &mut [u8],
-    ux: &[i64],
-    uy: &[i64],
-    totals: Totals,
-) -> GatherOutcome
-    requires { GatherSet nx ny records.old ux.now uy.now totals × (length records.old ≤ part * record_length) }
-    ensures { Gathers nx ny records.old ux.now uy.now totals result records.new }
+fn gather_small(nx: usize, ny: usize, records: &mut [u8], ux: &[i64], uy: &[i64]) -> Moved
+    requires { GatherSet nx ny records.old ux.now uy.now × (length records.old ≤ part * record_length) }
+    ensures { Moves (move_answer nx ny ux.now uy.now (particles_in records.old)) records.old (told_moved result) records.new }
 {
     let mut to = [0i16; PART_NUMBERS];
-    gather_scratch(nx, ny, records, &mut to, ux, uy, totals)
+    gather_scratch(nx, ny, records, &mut to, ux, uy)
 }
 
 // The same for any set. `gather_set` calls it. No set is as long as the call to itself asks: that call keeps the compiler from
 // making this function, and its array, a part of `gather`, which would then need the stack for it where it refuses.
-fn gather_large(
-    nx: usize,
-    ny: usize,
-    records: &mut [u8],
-    ux: &[i64],
-    uy: &[i64],
-    totals: Totals,
-) -> GatherOutcome
-    requires { GatherSet nx ny records.old ux.now uy.now totals }
-    ensures { Gathers nx ny records.old ux.now uy.now totals result records.new }
+fn gather_large(nx: usize, ny: usize, records: &mut [u8], ux: &[i64], uy: &[i64]) -> Moved
+    requires { GatherSet nx ny records.old ux.now uy.now }
+    ensures { Moves (move_answer nx ny ux.now uy.now (particles_in records.old)) records.old (told_moved result) records.new }
 {
     if SET_LENGTH < records.len() {
-        gather_large(nx, ny, records, ux, uy, totals);
+        gather_large(nx, ny, records, ux, uy);
     }
     let mut to = [0i16; SET_NUMBERS];
-    gather_scratch(nx, ny, records, &mut to, ux, uy, totals)
+    gather_scratch(nx, ny, records, &mut to, ux, uy)
 }
 
 // Gathers an accepted set: a small one has a small array, which is sooner cleared. `gather` calls it.
-fn gather_set(
-    nx: usize,
-    ny: usize,
-    records: &mut [u8],
-    ux: &[i64],
-    uy: &[i64],
-    totals: Totals,
-) -> GatherOutcome
-    requires { GatherSet nx ny records.old ux.now uy.now totals }
-    ensures { Gathers nx ny records.old ux.now uy.now totals result records.new }
+fn gather_set(nx: usize, ny: usize, records: &mut [u8], ux: &[i64], uy: &[i64]) -> Moved
+    requires { GatherSet nx ny records.old ux.now uy.now }
+    ensures { Moves (move_answer nx ny ux.now uy.now (particles_in records.old)) records.old (told_moved result) records.new }
 {
     if records.len() <= PART_LENGTH {
-        return gather_small(nx, ny, records, ux, uy, totals);
+        return gather_small(nx, ny, records, ux, uy);
     }
-    gather_large(nx, ny, records, ux, uy, totals)
+    gather_large(nx, ny, records, ux, uy)
 }
 
-// Grid-to-particle transfer: the records then hold the moved particles. A refused call leaves every record and the totals as they
-// were. This is the gather by value: crates running_totals and by_caller call it.
+// Grid-to-particle transfer: the records then hold the moved particles. A refused call leaves every record as it was.
 pub fn gather(
     caller: Caller,
     nx: usize,
@@ -133,15 +97,11 @@ pub fn gather(
     records: &mut [u8],
     ux: &[i64],
     uy: &[i64],
-    totals: Totals,
-) -> GatherOutcome
-    ensures { GatherIs caller nx ny records.old ux.now uy.now totals (told_moved result.answer) records.new result.totals }
+) -> Moved
+    ensures { GatherIs caller nx ny records.old ux.now uy.now (told_moved result) records.new }
 {
-    match gather_entry::check_gather(caller, nx, ny, records, ux, uy, totals) {
-        Begun::Refused(refusal) => GatherOutcome {
-            answer: Moved::Refused(refusal),
-            totals,
-        },
-        Begun::Done => gather_set(nx, ny, records, ux, uy, totals),
+    match gather_entry::check_gather(caller, nx, ny, records, ux, uy) {
+        Begun::Refused(refusal) => Moved::Refused(refusal),
+        Begun::Done => gather_set(nx, ny, records, ux, uy),
     }
 }

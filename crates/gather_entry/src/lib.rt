@@ -1,14 +1,13 @@
-// What a gather checks before any particle moves: sizes, records, buffers, the velocity of every node, and the running totals.
+// What a gather checks before any particle moves: sizes, records, buffers, and the velocity of every node.
 ghost use Rattle.std.specs.Prelude.{◌≡◌, length};
 ghost use Rattle.refusal.specs.Refused.{told_of};
 ghost use Rattle.entry.specs.Entry.{told_begun};
-ghost use Rattle.transfer.specs.Transfer.{velocity_checks, checked_set, gather_entry};
+ghost use Rattle.transfer.specs.Transfer.{velocity_checks, checked_set};
 
 use entry::{Begun, Buffers};
 use limits::{Caller, MOST_NODE_VELOCITY};
 use particles::Checked;
 use refusal::Refusal;
-use totals::Totals;
 
 // Looks at the velocity of every node. `check_gather` calls it.
 fn check_velocities(count: usize, ux: &[i64], uy: &[i64]) -> Begun
@@ -25,8 +24,8 @@ fn check_velocities(count: usize, ux: &[i64], uy: &[i64]) -> Begun
     Begun::Done
 }
 
-// The checks before the totals. `check_gather` calls it.
-fn check_nodes(
+// The checks of a gather before any particle moves. Crate gather calls it.
+pub fn check_gather(
     caller: Caller,
     nx: usize,
     ny: usize,
@@ -41,23 +40,5 @@ fn check_nodes(
     match entry::check(caller, settings, buffers, 0, records) {
         Checked::Refused(refusal) => Begun::Refused(refusal),
         Checked::Records(_) => check_velocities(ux.len(), ux, uy),
-    }
-}
-
-// The checks of a gather before any particle moves. Crate gather calls it.
-pub fn check_gather(
-    caller: Caller,
-    nx: usize,
-    ny: usize,
-    records: &[u8],
-    ux: &[i64],
-    uy: &[i64],
-    totals: Totals,
-) -> Begun
-    ensures { told_begun result ≡ told_of (gather_entry caller nx ny records.now ux.now uy.now totals) }
-{
-    match check_nodes(caller, nx, ny, records, ux, uy) {
-        Begun::Refused(refusal) => Begun::Refused(refusal),
-        Begun::Done => stored_totals::check(totals),
     }
 }

@@ -7,16 +7,15 @@ ghost use Rattle.limits.specs.declared.Caller.TheVariants.{Bench};
 ghost use Rattle.particle.specs.Record.{numbers, read_answer, write_answer, written};
 ghost use Rattle.particles.specs.Set.{check_answer};
 ghost use Rattle.totals.specs.Totals.{totals_answer, sums};
-ghost use Rattle.totals.specs.Running.{of_sums};
 ghost use Rattle.spline.specs.Answers.{weights_answer};
 ghost use Rattle.transfer.specs.Transfer.{ScatterIs, GatherIs};
 ghost use Rattle.adding.specs.Adding.{AddingIs};
 ghost use Rattle.update.specs.Update.{UpdateIs};
 ghost use Rattle.apic.specs.Step.{grids_of};
 ghost use Rattle.simulation.specs.Step.{Sees, step_after};
-ghost use Rattle.bath_file.specs.File.{file_answer, read_totals};
+ghost use Rattle.bath_file.specs.File.{file_answer};
 ghost use Rattle.bath_file.specs.File as file;
-ghost use Rattle.store.specs.Operations.{keep_answer, keep_leaves, return_answer, return_leaves, return_totals, forget_answer, forget_leaves, length_of};
+ghost use Rattle.store.specs.Operations.{keep_answer, keep_leaves, return_answer, return_leaves, forget_answer, forget_leaves, length_of};
 ghost use Rattle.wide.specs.Values.{weight_values, settings, particle_with, header_with};
 ghost use Rattle.coding.specs.Coded.{coded, Gives, Tells};
 ghost use Rattle.settings.specs.Settings.{settings_with};
@@ -171,7 +170,7 @@ pub extern "C" fn gondwize_update(
     )
 }
 
-// Gather, and the running totals.
+// Gather.
 #[unsafe(no_mangle)]
 pub extern "C" fn gondwize_gather(
     nx: usize,
@@ -179,16 +178,15 @@ pub extern "C" fn gondwize_gather(
     records: &mut [u8],
     ux: &[i64],
     uy: &[i64],
-    totals: &mut [i64; totals::SUMS],
 ) -> u64
     ensures { Tells (λ told. GatherIs Bench nx ny
-        records.old ux.now uy.now (of_sums totals.old) told
-        records.new (of_sums totals.new)) result }
+        records.old ux.now uy.now told
+        records.new) result }
 {
-    by_caller::gather(Caller::Bench, nx, ny, records, ux, uy, totals)
+    by_caller::gather(Caller::Bench, nx, ny, records, ux, uy)
 }
 
-// Step, and the running totals.
+// Step.
 #[unsafe(no_mangle)]
 pub extern "C" fn gondwize_step(
     nx: usize,
@@ -202,12 +200,10 @@ pub extern "C" fn gondwize_step(
     mass: &mut [u64],
     px: &mut [i64],
     py: &mut [i64],
-    totals: &mut [i64; totals::SUMS],
 ) -> u64
     ensures { Tells (λ told. Sees (step_after Bench (settings_with nx ny gx gy kind width drag)
-        records.old (grids_of mass.old px.old py.old) (of_sums totals.old))
-        records.old (of_sums totals.old) told
-        records.new mass.new px.new py.new (of_sums totals.new)) result }
+        records.old (grids_of mass.old px.old py.old)) told
+        records.new mass.new px.new py.new) result }
 {
     by_caller::step(
         Caller::Bench,
@@ -222,11 +218,10 @@ pub extern "C" fn gondwize_step(
         mass,
         px,
         py,
-        totals,
     )
 }
 
-// Run: one value, the number of completed steps, and the running totals.
+// Run: one value, the number of completed steps.
 #[unsafe(no_mangle)]
 pub extern "C" fn gondwize_run(
     nx: usize,
@@ -242,11 +237,10 @@ pub extern "C" fn gondwize_run(
     px: &mut [i64],
     py: &mut [i64],
     completed: &mut u64,
-    totals: &mut [i64; totals::SUMS],
 ) -> u64
     ensures { RunTells Bench (settings_with nx ny gx gy kind width drag) steps
-        records.old (grids_of mass.old px.old py.old) (of_sums totals.old) result
-        records.new mass.new px.new py.new completed.new (of_sums totals.new) }
+        records.old (grids_of mass.old px.old py.old) result
+        records.new mass.new px.new py.new completed.new }
 {
     coding::run_told(
         Caller::Bench,
@@ -263,21 +257,15 @@ pub extern "C" fn gondwize_run(
         px,
         py,
         completed,
-        totals,
     )
 }
 
-// Read a file: nine values, and the running totals.
+// Read a file: nine values.
 #[unsafe(no_mangle)]
-pub extern "C" fn gondwize_read_file(
-    bytes: &[u8],
-    values: &mut [i64; wide::SETTINGS],
-    totals: &mut [i64; totals::SUMS],
-) -> u64
-    ensures values { Gives (file_answer Bench bytes.now) settings values.old result values.new }
-    ensures totals { of_sums totals.new ≡ read_totals Bench bytes.now (of_sums totals.old) }
+pub extern "C" fn gondwize_read_file(bytes: &[u8], values: &mut [i64; wide::SETTINGS]) -> u64
+    ensures { Gives (file_answer Bench bytes.now) settings values.old result values.new }
 {
-    by_caller::read_file(Caller::Bench, bytes, values, totals)
+    by_caller::read_file(Caller::Bench, bytes, values)
 }
 
 // Write a header.
@@ -313,25 +301,18 @@ pub extern "C" fn gondwize_keep(store: &mut [u8], name: &[u8], file: &[u8]) -> u
     by_caller::keep(Caller::Bench, store, name, file)
 }
 
-// Return: one value, the length of the file, and the running totals.
+// Return: one value, the length of the file.
 #[unsafe(no_mangle)]
 pub extern "C" fn gondwize_return(
     store: &[u8],
     name: &[u8],
     buffer: &mut [u8],
     size: &mut u64,
-    totals: &mut [i64; totals::SUMS],
 ) -> u64
     ensures answer { Gives (length_of (return_answer store.now name.now buffer.old)) (λ n. n) size.old result size.new }
     ensures buffer { buffer.new ≡ return_leaves store.now name.now buffer.old }
-    ensures totals { of_sums totals.new ≡ return_totals store.now name.now buffer.old (of_sums totals.old) }
 {
-    let lent = totals_share::of_sums(*totals);
-    let outcome = store_calls::return_to(store, name, buffer, lent);
-    let told = outcome.answer;
-    let sums = outcome.totals;
-    *totals = totals_share::sums_of(sums);
-    match told {
+    match store_calls::return_to(store, name, buffer) {
         Returned::Refused(refusal) => answer::code(refusal),
         Returned::Length(found) => {
             *size = found as u64;

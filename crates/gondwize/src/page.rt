@@ -3,14 +3,13 @@ ghost use Rattle.std.specs.Prelude.{◌≡◌};
 ghost use Rattle.limits.specs.declared.Caller.TheVariants.{Page};
 ghost use Rattle.particles.specs.Set.{check_answer};
 ghost use Rattle.totals.specs.Totals.{totals_answer, sums};
-ghost use Rattle.totals.specs.Running.{of_sums};
 ghost use Rattle.transfer.specs.Transfer.{ScatterIs, GatherIs};
 ghost use Rattle.adding.specs.Adding.{AddingIs};
 ghost use Rattle.update.specs.Update.{UpdateIs};
 ghost use Rattle.apic.specs.Step.{grids_of};
 ghost use Rattle.settings.specs.Settings.{settings_with};
 ghost use Rattle.simulation.specs.Step.{Sees, step_after};
-ghost use Rattle.bath_file.specs.File.{file_answer, read_totals};
+ghost use Rattle.bath_file.specs.File.{file_answer};
 ghost use Rattle.store.specs.Operations.{keep_answer, keep_leaves};
 ghost use Rattle.wide.specs.Values.{settings};
 ghost use Rattle.coding.specs.Coded.{coded, Gives, Tells};
@@ -111,7 +110,7 @@ pub extern "C" fn gondwize_page_update(
     )
 }
 
-// Gather, and the running totals.
+// Gather.
 #[unsafe(no_mangle)]
 pub extern "C" fn gondwize_page_gather(
     nx: usize,
@@ -119,16 +118,15 @@ pub extern "C" fn gondwize_page_gather(
     records: &mut [u8],
     ux: &[i64],
     uy: &[i64],
-    totals: &mut [i64; totals::SUMS],
 ) -> u64
     ensures { Tells (λ told. GatherIs Page nx ny
-        records.old ux.now uy.now (of_sums totals.old) told
-        records.new (of_sums totals.new)) result }
+        records.old ux.now uy.now told
+        records.new) result }
 {
-    by_caller::gather(Caller::Page, nx, ny, records, ux, uy, totals)
+    by_caller::gather(Caller::Page, nx, ny, records, ux, uy)
 }
 
-// Step, and the running totals.
+// Step.
 #[unsafe(no_mangle)]
 pub extern "C" fn gondwize_page_step(
     nx: usize,
@@ -142,12 +140,10 @@ pub extern "C" fn gondwize_page_step(
     mass: &mut [u64],
     px: &mut [i64],
     py: &mut [i64],
-    totals: &mut [i64; totals::SUMS],
 ) -> u64
     ensures { Tells (λ told. Sees (step_after Page (settings_with nx ny gx gy kind width drag)
-        records.old (grids_of mass.old px.old py.old) (of_sums totals.old))
-        records.old (of_sums totals.old) told
-        records.new mass.new px.new py.new (of_sums totals.new)) result }
+        records.old (grids_of mass.old px.old py.old)) told
+        records.new mass.new px.new py.new) result }
 {
     by_caller::step(
         Caller::Page,
@@ -162,11 +158,10 @@ pub extern "C" fn gondwize_page_step(
         mass,
         px,
         py,
-        totals,
     )
 }
 
-// Run, and the running totals.
+// Run.
 #[unsafe(no_mangle)]
 pub extern "C" fn gondwize_page_run(
     nx: usize,
@@ -182,11 +177,10 @@ pub extern "C" fn gondwize_page_run(
     px: &mut [i64],
     py: &mut [i64],
     completed: &mut u64,
-    totals: &mut [i64; totals::SUMS],
 ) -> u64
     ensures { RunTells Page (settings_with nx ny gx gy kind width drag) steps
-        records.old (grids_of mass.old px.old py.old) (of_sums totals.old) result
-        records.new mass.new px.new py.new completed.new (of_sums totals.new) }
+        records.old (grids_of mass.old px.old py.old) result
+        records.new mass.new px.new py.new completed.new }
 {
     coding::run_told(
         Caller::Page,
@@ -203,21 +197,15 @@ pub extern "C" fn gondwize_page_run(
         px,
         py,
         completed,
-        totals,
     )
 }
 
-// Read a file, and the running totals.
+// Read a file.
 #[unsafe(no_mangle)]
-pub extern "C" fn gondwize_page_read_file(
-    bytes: &[u8],
-    values: &mut [i64; wide::SETTINGS],
-    totals: &mut [i64; totals::SUMS],
-) -> u64
-    ensures values { Gives (file_answer Page bytes.now) settings values.old result values.new }
-    ensures totals { of_sums totals.new ≡ read_totals Page bytes.now (of_sums totals.old) }
+pub extern "C" fn gondwize_page_read_file(bytes: &[u8], values: &mut [i64; wide::SETTINGS]) -> u64
+    ensures { Gives (file_answer Page bytes.now) settings values.old result values.new }
 {
-    by_caller::read_file(Caller::Page, bytes, values, totals)
+    by_caller::read_file(Caller::Page, bytes, values)
 }
 
 // Keep.

@@ -29,9 +29,7 @@ use Rattle.entry.proofs.Entry.{accepted}
 use Rattle.gathering.specs.Gather.{gathered}
 use Rattle.gathering.proofs.Checks.{checks-result}
 use Rattle.gathering.proofs.Kept.{set-kept}
-use Rattle.totals.specs.declared.Totals.{Totals}
-use Rattle.totals.proofs.Stored.{then-passed}
-use Rattle.transfer.specs.Transfer.{gather_entry, move_answer, gather_answer}
+use Rattle.transfer.specs.Transfer.{checked_set, move_answer, gather_answer}
 use Rattle.transfer.proofs.Gathers.{set-accepted}
 use Rattle.simulation.specs.Step.{stepped, buffers_of, step_entry, step_after}
 use Rattle.simulation.specs.Run.{run_entry, run_after}
@@ -75,20 +73,20 @@ by-entry (refused n k) passed stopped = ap labels_in (stopped n k refl)
 
 call-labels : (c : Call) (records : List ℕ) → labels_in (leaves c records) ≡ labels_in records
 unfolding step_entry step_after run_entry run_after
-call-labels (step caller s grids totals) records =
-    by-entry {after = (step_after caller s records grids totals).records} (step_entry caller s records grids totals)
-    (λ ps e. works-labels (call-works (step caller s grids totals) records (let-in caller s records grids 0 (then-passed totals _ e).0)))
+call-labels (step caller s grids) records =
+    by-entry {after = (step_after caller s records grids).records} (step_entry caller s records grids)
+    (λ ps e. works-labels (call-works (step caller s grids) records (let-in caller s records grids 0 e)))
     (λ n k e. rw e refl)
-call-labels (run caller s steps grids totals) records =
-    by-entry {after = (run_after caller s steps records grids totals).records} (run_entry caller s steps records grids totals)
-    (λ ps e. works-labels (call-works (run caller s steps grids totals) records (let-in caller s records grids steps (then-passed totals _ e).0)))
+call-labels (run caller s steps grids) records =
+    by-entry {after = (run_after caller s steps records grids).records} (run_entry caller s steps records grids)
+    (λ ps e. works-labels (call-works (run caller s steps grids) records (let-in caller s records grids steps e)))
     (λ n k e. rw e refl)
 
 pub step-keeps-marks : StepKeepsMarks
-step-keeps-marks caller s records grids totals = keeps (call-labels (step caller s grids totals) records)
+step-keeps-marks caller s records grids = keeps (call-labels (step caller s grids) records)
 
 pub run-keeps-marks : RunKeepsMarks
-run-keeps-marks caller s steps records grids totals = keeps (call-labels (run caller s steps grids totals) records)
+run-keeps-marks caller s steps records grids = keeps (call-labels (run caller s steps grids) records)
 
 calls-labels : (calls : List Call) (records : List ℕ) → labels_in (leaves_all calls records) ≡ labels_in records
 unfolding leaves_all
@@ -100,22 +98,22 @@ calls-keep-marks calls records = keeps (calls-labels calls records)
 
 -- ---- gather
 
-module _ (caller : Caller) (nx ny : ℕ) (records : List ℕ) (ux uy : List ℤ) (totals : Totals) where
-  gathered-labels : {qs : List Particle} → gather_answer caller nx ny records ux uy totals ≡ gives qs → labels_in (records_of qs) ≡ labels_in records
+module _ (caller : Caller) (nx ny : ℕ) (records : List ℕ) (ux uy : List ℤ) where
+  gathered-labels : {qs : List Particle} → gather_answer caller nx ny records ux uy ≡ gives qs → labels_in (records_of qs) ≡ labels_in records
   gathered-labels e =
-      let checked = went_on (gather_entry caller nx ny records ux uy totals) (λ ps. move_answer nx ny ux uy ps) e in
+      let checked = went_on (checked_set caller nx ny records ux uy) (λ ps. move_answer nx ny ux uy ps) e in
       let ps = checked.0 in
-      let in-set = set-accepted caller nx ny records ux uy totals checked.1 in
+      let in-set = set-accepted caller nx ny records ux uy checked.1 in
       let moves = checks-result nx ny (gathered axis_weight nx ny ux uy) 0 ps (map (gathered axis_weight nx ny ux uy) ps) checked.2 in
       ap (λ rs. labels_in (records_of rs)) (sym moves.1)
       ∙ ap (map label) (records-particles (set-kept axis_weight nx ny ux uy 0 ps (accepted-limits nx ny records in-set) moves.0))
       ∙ gather-labels rounded axis_weight nx ny (node nx ux) (node nx uy) ps
       ∙ ap (map label) (sym (particles_in-accepted nx ny records in-set))
 
-  left-labels : (a : Answer (List Particle)) → gather_answer caller nx ny records ux uy totals ≡ a → labels_in (either a records_of (λ n k. records)) ≡ labels_in records
+  left-labels : (a : Answer (List Particle)) → gather_answer caller nx ny records ux uy ≡ a → labels_in (either a records_of (λ n k. records)) ≡ labels_in records
   left-labels (gives qs) e = gathered-labels e
   left-labels (refused n k) e = refl
 
 pub gather-keeps-marks : GatherKeepsMarks
-gather-keeps-marks caller nx ny records ux uy totals told after sums is =
-    keeps (ap labels_in is.moves.left_is ∙ left-labels caller nx ny records ux uy totals (gather_answer caller nx ny records ux uy totals) refl)
+gather-keeps-marks caller nx ny records ux uy told after is =
+    keeps (ap labels_in is.left_is ∙ left-labels caller nx ny records ux uy (gather_answer caller nx ny records ux uy) refl)

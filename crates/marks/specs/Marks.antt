@@ -8,7 +8,6 @@ use Rattle.particles.specs.Set.{particles_in}
 use Rattle.settings.specs.declared.Settings.{Settings}
 use Rattle.apic.specs.Step.{Grids}
 use Rattle.apic.specs.Totals.{total_marks}
-use Rattle.totals.specs.declared.Totals.{Totals}
 use Rattle.transfer.specs.Transfer.{GatherIs}
 use Rattle.simulation.specs.Step.{step_after}
 use Rattle.simulation.specs.Run.{run_after}
@@ -22,15 +21,15 @@ pub record KeepsMarks (before after : List ℕ) : Type 0 where
 
 abbrev pub GatherKeepsMarks : Type 0
 GatherKeepsMarks =
-    (caller : Caller) (nx ny : ℕ) (records : List ℕ) (ux uy : List ℤ) (totals : Totals) (told : Answer Unit) (after : List ℕ) (sums : Totals)
-    → GatherIs caller nx ny records ux uy totals told after sums → KeepsMarks records after
+    (caller : Caller) (nx ny : ℕ) (records : List ℕ) (ux uy : List ℤ) (told : Answer Unit) (after : List ℕ)
+    → GatherIs caller nx ny records ux uy told after → KeepsMarks records after
 
 abbrev pub StepKeepsMarks : Type 0
-StepKeepsMarks = (caller : Caller) (s : Settings) (records : List ℕ) (grids : Grids) (totals : Totals) → KeepsMarks records (step_after caller s records grids totals).records
+StepKeepsMarks = (caller : Caller) (s : Settings) (records : List ℕ) (grids : Grids) → KeepsMarks records (step_after caller s records grids).records
 
 abbrev pub RunKeepsMarks : Type 0
 RunKeepsMarks =
-    (caller : Caller) (s : Settings) (steps : ℕ) (records : List ℕ) (grids : Grids) (totals : Totals) → KeepsMarks records (run_after caller s steps records grids totals).records
+    (caller : Caller) (s : Settings) (steps : ℕ) (records : List ℕ) (grids : Grids) → KeepsMarks records (run_after caller s steps records grids).records
 
 abbrev pub CallsKeepMarks : Type 0
 CallsKeepMarks = (calls : List Call) (records : List ℕ) → KeepsMarks records (leaves_all calls records)

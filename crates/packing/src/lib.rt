@@ -24,7 +24,7 @@ fn pack_particle(array: &[i16], k: usize, records: &mut [u8])
     record_writer::pack(p, &mut records[at..at + RECORD_LENGTH]);
 }
 
-// Packs every particle. Crates gather, step_set and repeat_set call it with the particles of the set in the records.
+// Packs every particle. Crates gather and run_set call it with the particles of the set in the records.
 pub fn pack_set(array: &[i16], records: &mut [u8])
     requires { Packable array.now × (length records.old ≡ record_length * (length array.now / per_particle)) }
     ensures { Packs array.now records.old records.new }

@@ -8,7 +8,6 @@ use Rattle.particles.specs.Set.{checked_particle, set_from, records_of, particle
 use Rattle.gathering.specs.Gather.{move_check, move_checks}
 use Rattle.update.specs.Update.{velocities}
 use Rattle.entry.specs.Entry.{checked_forces, begin_answer, entry_answer}
-use Rattle.totals.specs.Running.{valid_totals, checked_totals, then_totals}
 use Rattle.simulation.specs.Step.{masses_by, momenta_by, velocities_by, stepped_by, step_by}
 use Rattle.simulation.specs.Run.{run_by, run_entry, run_after}
 use Rattle.bath_file.specs.File.{header_in, checked_header, header_answer, records_answer}
@@ -20,5 +19,5 @@ use Rattle.program.specs.Program.{program_text}
 use Rattle.program.specs.Examples.{Examples}
 
 pub examples : Examples
-unfolding nearest nearest_node offset on_axis axis_weight particle_of record_of read_particle read_answer checked_particle set_from records_of particles_in node_mass node_momentum node_velocity after_drag updated_velocity gathered_velocity gathered_affine moved move_check move_checks velocities masses_by momenta_by velocities_by stepped_by step_by run_by checked_forces entry_answer begin_answer valid_totals checked_totals then_totals run_entry run_after header_in checked_header header_answer records_answer digits_within decimal signed refused_line done_line totals_line particle_line particle_lines run_text report_of program_text
+unfolding nearest nearest_node offset on_axis axis_weight particle_of record_of read_particle read_answer checked_particle set_from records_of particles_in node_mass node_momentum node_velocity after_drag updated_velocity gathered_velocity gathered_affine moved move_check move_checks velocities masses_by momenta_by velocities_by stepped_by step_by run_by checked_forces entry_answer begin_answer run_entry run_after header_in checked_header header_answer records_answer digits_within decimal signed refused_line done_line totals_line particle_line particle_lines run_text report_of program_text
 examples = record { printed = refl; stopped = refl; held = refl; wide = refl; refused = refl }

@@ -19,16 +19,13 @@ use Rattle.refusal.specs.Refused.{Answer, either}
 use Rattle.limits.specs.declared.Caller.TheVariants.{Bench}
 use Rattle.apic.specs.Limits.{SizeLimits}
 use Rattle.particles.proofs.Checks.{size-limits, entered}
-use Rattle.totals.specs.declared.Totals.{Totals}
-use Rattle.totals.specs.Running.{totals_in, TrueOf}
-use Rattle.totals.proofs.Sums.{true-changed}
-use Rattle.simulation.specs.declared.RunOutcome.{RunOutcome}
+use Rattle.simulation.specs.declared.Ran.{Ran}
 use Rattle.apic.specs.Step.{Grids, grids_of}
 use Rattle.simulation.specs.Step.{Sees}
 use Rattle.simulation.specs.Run.{told_ran}
 use Rattle.bath_file.specs.declared.Header.{Header}
 use Rattle.bath_file.specs.Layout.{header_length}
-use Rattle.bath_file.specs.File.{file_answer, records_in}
+use Rattle.bath_file.specs.File.{file_answer}
 use Rattle.bath_file.proofs.Answers.{header-held}
 use Rattle.bath_file.proofs.Records.{file-held}
 use Rattle.report.specs.Lines.{refused_line}
@@ -37,11 +34,11 @@ use Rattle.file_run.proofs.FirstNodes.{nodes-most}
 use Rattle.run_report.specs.RunReport.{report_of}
 use Rattle.run_report.specs.Internal.{Reportable, Begins}
 use Rattle.program.specs.declared.Printed.{Printed}
-use Rattle.program.specs.Program.{run_of, zero_grids, run_report, program_text, is_refused, printed, text_after, file_after, grids_after}
+use Rattle.program.specs.Program.{records_in, run_of, zero_grids, run_report, program_text, is_refused, printed, text_after, file_after, grids_after}
 use Rattle.program.specs.Laws.{SameLengths}
 use Rattle.program.specs.Internal.{AcceptedFile, Prints}
 use Rattle.program.proofs.Grids.{any-grids}
-use Rattle.program.proofs.Kept.{Held, run-kept}
+use Rattle.program.proofs.Kept.{Held, kept-totals, run-kept}
 
 -- ---- the part behind the header
 
@@ -118,7 +115,7 @@ module _ (bytes : List ℕ) where
 
 -- ---- a file that was accepted
 
-module _ {h : Header} {totals : Totals} {bytes mass : List ℕ} {x y : List ℤ} {text : List ℕ} (a : AcceptedFile h totals bytes mass x y text) where
+module _ {h : Header} {bytes mass : List ℕ} {x y : List ℤ} {text : List ℕ} (a : AcceptedFile h bytes mass x y text) where
   pub file-sizes : SizeLimits h.nx h.ny
   file-sizes = size-limits Bench h.nx h.ny (header-held Bench bytes (file-held Bench bytes h a.file).header).valid.size
 
@@ -134,34 +131,27 @@ module _ {h : Header} {totals : Totals} {bytes mass : List ℕ} {x y : List ℤ}
         y = length-take-le (node_count h) y (le_trans most a.grids.y-velocities) ∙ sym (length-replicate (node_count h) (pos 0));
       }
 
-  module _ (r : RunOutcome) {records mass' : List ℕ} {x' y' : List ℤ} (lends : Sees (run_first h (lent bytes) (grids_of mass x y) totals) (lent bytes) totals (told_ran r.answer) records mass' x' y' r.totals) where
-    ran : Sees (run_first h (records_in bytes) (grids_of mass x y) (totals_in (records_in bytes))) (records_in bytes) (totals_in (records_in bytes)) (told_ran r.answer) records mass' x' y' r.totals
-    ran = rw (lent-all bytes, a.true-totals) at lends
+  module _ (r : Ran) {records mass' : List ℕ} {x' y' : List ℤ} (lends : Sees (run_first h (lent bytes) (grids_of mass x y)) (told_ran r) records mass' x' y') where
+    ran : Sees (run_first h (records_in bytes) (grids_of mass x y)) (told_ran r) records mass' x' y'
+    ran = rw (lent-all bytes) at lends
 
     left : Held h.nx h.ny records
     left =
         let before = file-held Bench bytes h a.file in
         let held : Held h.nx h.ny (records_in bytes) = record { particles = before.particles; set = before.set } in
-        rw ran.records-are (run-kept (settings_for h) h.steps (records_in bytes) (first_nodes (node_count h) (grids_of mass x y)) (totals_in (records_in bytes)) held)
+        rw ran.records (run-kept (settings_for h) h.steps (records_in bytes) (first_nodes (node_count h) (grids_of mass x y)) held)
 
-    -- the running totals are those of the records that the run left
-    true-then : TrueOf r.totals records
-    true-then =
-        ran.totals-are
-        ∙ true-changed (totals_in (records_in bytes)) (records_in bytes) _ refl
-        ∙ sym (ap totals_in ran.records-are)
-
-    pub report-ready : Reportable r.totals (lent (given_back bytes records)) text
+    pub report-ready : Reportable h (lent (given_back bytes records)) text
     report-ready =
-        subst (λ l. Reportable r.totals l text) (sym (lent_back bytes records file-long))
-        (record { true-totals = true-then; whole = (entered Bench h.nx h.ny records left.set).whole; room = a.room })
+        subst (λ l. Reportable h l text) (sym (lent_back bytes records file-long))
+        (record { totals = kept-totals left; whole = (entered Bench h.nx h.ny records left.set).whole; room = a.room })
 
-    module _ {n : ℕ} {text' : List ℕ} (b : Begins (report_of (told_ran r.answer) (lent (given_back bytes records))) text n text') where
+    module _ {n : ℕ} {text' : List ℕ} (b : Begins (report_of (told_ran r) (lent (given_back bytes records))) text n text') where
       pub accepted-prints : Prints bytes (grids_of mass x y) text (record { length = n; refused = false }) (given_back bytes records) (grids_of mass' x' y') text'
       accepted-prints =
           let grids = grids_of mass x y in
-          let law = any-grids Bench (settings_for h) h.steps (records_in bytes) (totals_in (records_in bytes)) (first_nodes (node_count h) grids) (zero_grids h) first-lengths in
+          let law = any-grids Bench (settings_for h) h.steps (records_in bytes) (first_nodes (node_count h) grids) (zero_grids h) first-lengths in
           prints bytes a.file refl b
-          (ap₂ report_of (ran.answer ∙ law.0) (lent_back bytes records file-long ∙ ran.records-are ∙ law.1))
-          (back_is bytes records ∙ ap (λ l. take header_length bytes ++ l) (ran.records-are ∙ law.1))
+          (ap₂ report_of (ran.answer ∙ law.0) (lent_back bytes records file-long ∙ ran.records ∙ law.1))
+          (back_is bytes records ∙ ap (λ l. take header_length bytes ++ l) (ran.records ∙ law.1))
           (ap₂ (λ m u. grids_of m u y') ran.masses ran.x-velocities ∙ ap (grids_of _ _) ran.y-velocities)

@@ -7,7 +7,6 @@ use Rattle.limits.specs.declared.Caller.{Caller}
 use Rattle.particle.specs.declared.Particle.{Particle}
 use Rattle.settings.specs.declared.Settings.{Settings}
 use Rattle.apic.specs.Step.{Grids}
-use Rattle.totals.specs.declared.Totals.{Totals}
 use Rattle.simulation.specs.Step.{After}
 use Rattle.simulation.specs.Run.{Completion, run_from, run_by, run_entry, run_after}
 use Rattle.program.specs.Laws.{SameLengths, AnyGrids}
@@ -20,8 +19,8 @@ unfolding run_by
 same-steps s zero records ps g h = (refl, refl)
 same-steps s (suc n) records ps g h = (refl, refl)
 
-module _ (caller : Caller) (s : Settings) (steps : ℕ) (records : List ℕ) (totals : Totals) where
-  same-entry : (g h : Grids) → SameLengths g h → run_entry caller s steps records g totals ≡ run_entry caller s steps records h totals
+module _ (caller : Caller) (s : Settings) (steps : ℕ) (records : List ℕ) where
+  same-entry : (g h : Grids) → SameLengths g h → run_entry caller s steps records g ≡ run_entry caller s steps records h
   unfolding run_entry
   same-entry g h same = rw (same.mass, same.x, same.y)
 
@@ -36,6 +35,6 @@ module _ (caller : Caller) (s : Settings) (steps : ℕ) (records : List ℕ) (to
 
 pub any-grids : AnyGrids
 unfolding run_after
-any-grids caller s steps records totals g h same =
-    subst (λ a. SameRun (by caller s steps records totals g (run_entry caller s steps records g totals)) (by caller s steps records totals h a))
-    (same-entry caller s steps records totals g h same) (same_after caller s steps records totals g h (run_entry caller s steps records g totals))
+any-grids caller s steps records g h same =
+    subst (λ a. SameRun (by caller s steps records g (run_entry caller s steps records g)) (by caller s steps records h a))
+    (same-entry caller s steps records g h same) (same_after caller s steps records g h (run_entry caller s steps records g))

@@ -1,16 +1,17 @@
 -- The records that a run leaves are again a set that check a set accepts, for the same sizes.
 --     run-kept       they are, where those before the run were
+--     kept-totals    so their totals are those of the particles that they hold
 -- Assumes nothing.
 use Prim.Native.Nat.{ℕ, zero, suc}
 use mathlib.Core.Path.{◌≡◌, refl, sym, ap, ◌∙◌, subst}
 use mathlib.Core.List.{List}
-use Rattle.refusal.specs.Refused.{Answer, gives, refused}
+use Rattle.refusal.specs.Refused.{Answer, gives, refused, and_then}
 use Rattle.limits.specs.declared.Caller.TheVariants.{Bench}
 use Rattle.spline.specs.Spline.{axis_weight, D}
 use Rattle.particle.specs.declared.Particle.{Particle}
 use Rattle.apic.specs.Limits.{SetLimits}
 use Rattle.particles.specs.Set.{records_of, set_answer, particles_in}
-use Rattle.totals.specs.declared.Totals.{Totals}
+use Rattle.totals.specs.Totals.{totals_of, totals_answer}
 use Rattle.particles.proofs.Accepted.{accepted-limits, limits-accepted}
 use Rattle.settings.specs.declared.Settings.{Settings}
 use Rattle.apic.specs.Step.{Grids}
@@ -27,6 +28,9 @@ pub record Held (nx ny : ℕ) (records : List ℕ) : Type 0 where
 
 pub held-particles : {nx ny : ℕ} {records : List ℕ} (h : Held nx ny records) → particles_in records ≡ h.particles
 held-particles {nx} {ny} {records} h = particles_in-accepted nx ny records h.set
+
+pub kept-totals : {nx ny : ℕ} {records : List ℕ} → Held nx ny records → totals_answer Bench nx ny records ≡ gives (totals_of (particles_in records))
+kept-totals h = ap (λ a. and_then a (λ ps. gives (totals_of ps))) h.set ∙ ap (λ ps. gives (totals_of ps)) (sym (held-particles h))
 
 module _ (s : Settings) where
   abbrev Kept : List ℕ → Type 0
@@ -54,12 +58,12 @@ module _ (s : Settings) where
       go further (gives qs) f = rw f (further qs (next-kept records e f))
       go further (refused k p) f = rw f (record { particles = ps; set = e })
 
-  pub run-kept : (steps : ℕ) (records : List ℕ) (grids : Grids) (totals : Totals) → Kept records → Kept (run_after Bench s steps records grids totals).records
+  pub run-kept : (steps : ℕ) (records : List ℕ) (grids : Grids) → Kept records → Kept (run_after Bench s steps records grids).records
   unfolding run_after
-  run-kept steps records grids totals h = go (run_entry Bench s steps records grids totals) refl
+  run-kept steps records grids h = go (run_entry Bench s steps records grids) refl
     where
-      go : (a : Answer (List Particle)) → run_entry Bench s steps records grids totals ≡ a → Kept (run_after Bench s steps records grids totals).records
+      go : (a : Answer (List Particle)) → run_entry Bench s steps records grids ≡ a → Kept (run_after Bench s steps records grids).records
       go (gives ps) e =
-          let same : h.particles ≡ ps = sym (held-particles h) ∙ (ready-run Bench s records totals steps grids e).holds in
+          let same : h.particles ≡ ps = sym (held-particles h) ∙ (ready-run Bench s records steps grids e).holds in
           rw e (steps-kept steps records ps grids (h.set ∙ ap gives same))
       go (refused n k) e = rw e h

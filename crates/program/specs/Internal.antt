@@ -4,18 +4,15 @@ use Rattle.refusal.specs.Refused.{gives}
 use Rattle.limits.specs.declared.Caller.TheVariants.{Bench}
 use Rattle.apic.specs.Step.{Grids}
 use Rattle.bath_file.specs.declared.Header.{Header}
-use Rattle.totals.specs.declared.Totals.{Totals}
-use Rattle.totals.specs.Running.{TrueOf}
-use Rattle.bath_file.specs.File.{file_answer, records_in}
+use Rattle.bath_file.specs.File.{file_answer}
 use Rattle.report.specs.Report.{report_length}
 use Rattle.file_run.specs.FileRun.{RunRoom}
 use Rattle.program.specs.declared.Printed.{Printed}
 use Rattle.program.specs.Program.{printed, text_after, file_after, grids_after}
 
--- a file that was accepted, the totals of its records, and room for its run and its report
-pub record AcceptedFile (h : Header) (totals : Totals) (bytes mass : List ℕ) (x y : List ℤ) (text : List ℕ) : Type 0 where
+-- a file that was accepted, and room for its run and its report
+pub record AcceptedFile (h : Header) (bytes mass : List ℕ) (x y : List ℤ) (text : List ℕ) : Type 0 where
   pub file : file_answer Bench bytes ≡ gives h
-  pub true-totals : TrueOf totals (records_in bytes)
   pub grids : RunRoom mass x y
   pub room : report_length ≤ length text
 

@@ -6,7 +6,6 @@ use Rattle.std.specs.Prelude.{ℕ, ◌≡◌, List, length, take}
 use Rattle.limits.specs.declared.Caller.{Caller}
 use Rattle.settings.specs.declared.Settings.{Settings}
 use Rattle.apic.specs.Step.{Grids}
-use Rattle.totals.specs.declared.Totals.{Totals}
 use Rattle.simulation.specs.Run.{run_after}
 use Rattle.bath_file.specs.File.{room_for_file}
 use Rattle.program.specs.Program.{program_text}
@@ -19,10 +18,10 @@ pub record SameLengths (g h : Grids) : Type 0 where
 -- the answer and the records of a run are the same, whatever grids of the same lengths hold
 abbrev pub AnyGrids : Type 0
 AnyGrids =
-    (caller : Caller) (s : Settings) (steps : ℕ) (records : List ℕ) (totals : Totals) (g h : Grids) →
+    (caller : Caller) (s : Settings) (steps : ℕ) (records : List ℕ) (g h : Grids) →
     SameLengths g h →
-    ((run_after caller s steps records g totals).answer ≡ (run_after caller s steps records h totals).answer)
-    × ((run_after caller s steps records g totals).records ≡ (run_after caller s steps records h totals).records)
+    ((run_after caller s steps records g).answer ≡ (run_after caller s steps records h).answer)
+    × ((run_after caller s steps records g).records ≡ (run_after caller s steps records h).records)
 
 -- whoever reads as many bytes of an input knows what the program prints of all of it
 abbrev pub LongerInput : Type 0

@@ -13,8 +13,7 @@ use Rattle.simulation.specs.Step.{After}
 use Rattle.simulation.specs.Run.{Completion, run_after}
 use Rattle.bath_file.specs.declared.Header.{Header}
 use Rattle.bath_file.specs.Layout.{header_length}
-use Rattle.totals.specs.Running.{totals_in}
-use Rattle.bath_file.specs.File.{file_answer, records_in}
+use Rattle.bath_file.specs.File.{file_answer}
 use Rattle.report.specs.Lines.{refused_line}
 use Rattle.file_run.specs.FileRun.{settings_for, node_count, first_nodes, with_first}
 use Rattle.run_report.specs.RunReport.{report_of}
@@ -22,9 +21,13 @@ use Rattle.program.specs.declared.Printed.{Printed}
 
 -- ---- "It reads a bath file from standard input, runs it and prints"
 
--- the run that a file asks for, with the running totals that reading it leaves
+-- the records lie behind the header
+abbrev pub records_in : List ℕ → List ℕ
+records_in bytes = drop header_length bytes
+
+-- the run that a file asks for
 abbrev pub run_of : Header → List ℕ → Grids → After Completion
-run_of h bytes grids = run_after Bench (settings_for h) h.steps (records_in bytes) grids (totals_in (records_in bytes))
+run_of h bytes grids = run_after Bench (settings_for h) h.steps (records_in bytes) grids
 
 -- grids of its size with every node zero
 abbrev pub zero_grids : Header → Grids

@@ -3,7 +3,7 @@
 -- Assumes nothing.
 use Rattle.std.specs.Prelude.{◌≡◌, ℕ, zero, suc, Bool, true, false}
 use Rattle.refusal.specs.declared.Refusal.{Refusal}
-use Rattle.refusal.specs.declared.Refusal.TheVariants.{Length, GridSize, Count, Mass, Velocity, Affine, Position, Identifier, TotalMass, Gravity, NodeMass, NodeVelocity, NewVelocity, NewAffine, NewPosition, SpareBits, Steps, Edge, Drag, PresentNode, AddedMass, Name, NotHeld, FullStore, StoredTotal}
+use Rattle.refusal.specs.declared.Refusal.TheVariants.{Length, GridSize, Count, Mass, Velocity, Affine, Position, Identifier, TotalMass, Gravity, NodeMass, NodeVelocity, NewVelocity, NewAffine, NewPosition, SpareBits, Steps, Edge, Drag, PresentNode, AddedMass, Name, NotHeld, FullStore}
 
 pub data Answer (A : Type 0) : Type 0 where
   gives : A → Answer A
@@ -34,7 +34,6 @@ number (AddedMass k) = 21
 number Name = 22
 number NotHeld = 23
 number FullStore = 24
-number StoredTotal = 25
 
 abbrev pub place : Refusal → ℕ
 place Length = 0
@@ -61,7 +60,6 @@ place (AddedMass k) = k
 place Name = 0
 place NotHeld = 0
 place FullStore = 0
-place StoredTotal = 0
 
 -- a refusal as these documents tell it
 abbrev pub refused_by : {A : Type 0} → Refusal → Answer A

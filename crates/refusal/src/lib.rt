@@ -52,8 +52,6 @@ pub enum Refusal {
     NotHeld,
     // 24: a store holds four other names
     FullStore,
-    // 25: a stored total is beyond ±2^43, or mass, motion or marks is negative
-    StoredTotal,
 }
 
 // The number of a refusal in these lists.
@@ -85,7 +83,6 @@ pub fn number_of(refusal: Refusal) -> u8
         Refusal::Name => 22,
         Refusal::NotHeld => 23,
         Refusal::FullStore => 24,
-        Refusal::StoredTotal => 25,
     }
 }
 
@@ -118,6 +115,5 @@ pub fn place_of(refusal: Refusal) -> usize
         Refusal::Name => 0,
         Refusal::NotHeld => 0,
         Refusal::FullStore => 0,
-        Refusal::StoredTotal => 0,
     }
 }

@@ -7,7 +7,6 @@ use Prim.Native.Nat.{ℕ}
 use lib.ListN.{length}
 use borrow.Author.Tests.{not-true}
 use Rattle.refusal.specs.Refused.{Answer, gives, refused, and_then, either, accepted}
-use Rattle.bath_file.specs.File.{records_in}
 use Rattle.bath_file.proofs.Records.{file-held}
 use Rattle.store.specs.Form.{valid_store}
 use Rattle.store.specs.Operations.{return_answer}
@@ -18,7 +17,7 @@ use Rattle.store.proofs.Calls.{every_call, Returns, return-passed}
 use Rattle.particles.specs.Set.{particles_in}
 use Rattle.simulation.specs.Demand3.{Accepted, leaves_all, completes_all, completed_steps, Keeps}
 use Rattle.simulation.proofs.Conserved.{demand-3}
-use Rattle.returned.specs.Returned.{Lent, MixedCall, on_store, on_records, records_after, after, after_all, returns, no_return, motions, returned_to, FromReturn}
+use Rattle.returned.specs.Returned.{Lent, MixedCall, on_store, on_records, records_in, records_after, after, after_all, returns, no_return, motions, returned_to, FromReturn}
 
 -- ---- the form
 

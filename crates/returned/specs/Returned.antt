@@ -5,10 +5,10 @@
 --     no_return, motions                   calls without another return, and the step and run calls among them
 --     MeasuredFrom, FromReturn            the claim
 -- Assumes nothing.
-use Rattle.std.specs.Prelude.{◌≡◌, Bool, true, false, not, ◌&&◌, List, [], ◌∷◌, ℕ}
+use Rattle.std.specs.Prelude.{◌≡◌, Bool, true, false, not, ◌&&◌, List, [], ◌∷◌, ℕ, drop}
 use Rattle.std.proofs.Math.Option.{some}
 use Rattle.refusal.specs.Refused.{gives, either, accepted}
-use Rattle.bath_file.specs.File.{records_in}
+use Rattle.bath_file.specs.Layout.{header_length}
 use Rattle.store.specs.Form.{valid_store, holds}
 use Rattle.store.specs.Operations.{return_answer}
 use Rattle.store.specs.Calls.{StoreCall, keep, return, forget, leaves_store}
@@ -23,6 +23,10 @@ pub record Lent : Type 0 where
 pub data MixedCall : Type 0 where
   on_store : StoreCall → MixedCall
   on_records : Call → MixedCall
+
+-- the records of a bath file lie behind its header
+abbrev pub records_in : List ℕ → List ℕ
+records_in file = drop header_length file
 
 -- a return that is not refused replaces the records by those of its file
 abbrev pub records_after : StoreCall → Lent → List ℕ

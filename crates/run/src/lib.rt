@@ -1,19 +1,18 @@
 // A step and a run of a particle set.
-ghost use Rattle.std.specs.Prelude.{◌≡◌, ◌*◌, ◌≤◌, length};
+ghost use Rattle.std.specs.Prelude.{◌*◌, ◌≤◌, length};
 ghost use Rattle.particle.specs.Layout.{record_length};
 ghost use Rattle.apic.specs.Step.{grids_of};
 ghost use Rattle.simulation.specs.Step.{Sees, told_stepped, step_after};
 ghost use Rattle.simulation.specs.Run.{told_ran, run_after};
 ghost use Rattle.simulation.specs.Internal.{small, middle, RunReady, Runs};
 
-use entry::{Begun, Buffers};
+use entry::Buffers;
 use limits::Caller;
 use packing::SET_NUMBERS;
 use particle::RECORD_LENGTH;
 use particles::{Checked, SET_LENGTH};
 use settings::Settings;
-use simulation::{Ran, RunOutcome, StepOutcome, Stepped};
-use totals::Totals;
+use simulation::{Ran, Stepped};
 use unpacked::NUMBERS;
 
 // A small set has at most so many particles: its length in bytes, and how many numbers it has.
@@ -38,16 +37,13 @@ fn run_small(
     mass: &mut [u64],
     px: &mut [i64],
     py: &mut [i64],
-    totals: Totals,
-) -> RunOutcome
-    requires { RunReady settings records.old mass.old px.old py.old totals × (length records.old ≤ small * record_length) }
-    ensures { Runs settings steps records.old mass.old px.old py.old totals result records.new mass.new px.new py.new }
+) -> Ran
+    requires { RunReady settings records.old mass.old px.old py.old × (length records.old ≤ small * record_length) }
+    ensures { Runs settings steps records.old mass.old px.old py.old result records.new mass.new px.new py.new }
 {
     let mut a = [0i16; SMALL_NUMBERS];
     let mut b = [0i16; SMALL_NUMBERS];
-    run_set::run_set(
-        settings, steps, records, mass, px, py, totals, &mut a, &mut b,
-    )
+    run_set::run_set(settings, steps, records, mass, px, py, &mut a, &mut b)
 }
 
 // The same for a middle set. `run` calls it. No middle set is as long as the call to itself asks: that call keeps the
@@ -59,19 +55,16 @@ fn run_middle(
     mass: &mut [u64],
     px: &mut [i64],
     py: &mut [i64],
-    totals: Totals,
-) -> RunOutcome
-    requires { RunReady settings records.old mass.old px.old py.old totals × (length records.old ≤ middle * record_length) }
-    ensures { Runs settings steps records.old mass.old px.old py.old totals result records.new mass.new px.new py.new }
+) -> Ran
+    requires { RunReady settings records.old mass.old px.old py.old × (length records.old ≤ middle * record_length) }
+    ensures { Runs settings steps records.old mass.old px.old py.old result records.new mass.new px.new py.new }
 {
     if MIDDLE_LENGTH < records.len() {
-        run_middle(settings, steps, records, mass, px, py, totals);
+        run_middle(settings, steps, records, mass, px, py);
     }
     let mut a = [0i16; MIDDLE_NUMBERS];
     let mut b = [0i16; MIDDLE_NUMBERS];
-    run_set::run_set(
-        settings, steps, records, mass, px, py, totals, &mut a, &mut b,
-    )
+    run_set::run_set(settings, steps, records, mass, px, py, &mut a, &mut b)
 }
 
 // The same for any set, in the same way. `run` calls it.
@@ -82,24 +75,20 @@ fn run_large(
     mass: &mut [u64],
     px: &mut [i64],
     py: &mut [i64],
-    totals: Totals,
-) -> RunOutcome
-    requires { RunReady settings records.old mass.old px.old py.old totals }
-    ensures { Runs settings steps records.old mass.old px.old py.old totals result records.new mass.new px.new py.new }
+) -> Ran
+    requires { RunReady settings records.old mass.old px.old py.old }
+    ensures { Runs settings steps records.old mass.old px.old py.old result records.new mass.new px.new py.new }
 {
     if SET_LENGTH < records.len() {
-        run_large(settings, steps, records, mass, px, py, totals);
+        run_large(settings, steps, records, mass, px, py);
     }
     let mut a = [0i16; SET_NUMBERS];
     let mut b = [0i16; SET_NUMBERS];
-    run_set::run_set(
-        settings, steps, records, mass, px, py, totals, &mut a, &mut b,
-    )
+    run_set::run_set(settings, steps, records, mass, px, py, &mut a, &mut b)
 }
 
 // As many steps as wanted, or until one is refused: the records then hold the last completed step, and the grids the masses
-// and updated velocities of the last step tried. The totals change as the records do. A run refused at entry, and a run of no step,
-// changes nothing. This is the run by value: crates running_totals, coding and file_run call it.
+// and updated velocities of the last step tried. A run refused at entry, and a run of no step, changes nothing.
 pub fn run(
     caller: Caller,
     settings: Settings,
@@ -108,51 +97,25 @@ pub fn run(
     mass: &mut [u64],
     px: &mut [i64],
     py: &mut [i64],
-    totals: Totals,
-) -> RunOutcome
-    ensures { Sees (run_after caller settings steps records.old (grids_of mass.old px.old py.old) totals) records.old totals
-        (told_ran result.answer) records.new mass.new px.new py.new result.totals }
+) -> Ran
+    ensures { Sees (run_after caller settings steps records.old (grids_of mass.old px.old py.old)) (told_ran result) records.new mass.new px.new py.new }
 {
     let buffers = Buffers::Three(mass.len(), px.len(), py.len());
     match entry::check(caller, settings, buffers, steps, records) {
-        Checked::Refused(refusal) => {
-            return RunOutcome {
-                answer: Ran::Stopped(0, refusal),
-                totals,
-            };
-        }
+        Checked::Refused(refusal) => return Ran::Stopped(0, refusal),
         Checked::Records(_) => {}
-    }
-    match stored_totals::check(totals) {
-        Begun::Refused(refusal) => {
-            return RunOutcome {
-                answer: Ran::Stopped(0, refusal),
-                totals,
-            };
-        }
-        Begun::Done => {}
     }
     // An array is cleared at each call, so a set takes the smallest that has room.
     if records.len() <= SMALL_LENGTH {
-        return run_small(settings, steps, records, mass, px, py, totals);
+        return run_small(settings, steps, records, mass, px, py);
     }
     if records.len() <= MIDDLE_LENGTH {
-        return run_middle(settings, steps, records, mass, px, py, totals);
+        return run_middle(settings, steps, records, mass, px, py);
     }
-    run_large(settings, steps, records, mass, px, py, totals)
+    run_large(settings, steps, records, mass, px, py)
 }
 
-// The answer of a run of one step, as a step's.
-fn stepped(ran: Ran) -> Stepped
-    ensures { told_stepped result ≡ (told_ran ran).stop }
-{
-    match ran {
-        Ran::Done(_) => Stepped::Done,
-        Ran::Stopped(_, refusal) => Stepped::Refused(refusal),
-    }
-}
-
-// One step, which is a run of one: on success the records hold the moved particles; refused, they are as they were. By value too.
+// One step, which is a run of one: on success the records hold the moved particles; refused, they are as they were.
 pub fn step(
     caller: Caller,
     settings: Settings,
@@ -160,16 +123,11 @@ pub fn step(
     mass: &mut [u64],
     px: &mut [i64],
     py: &mut [i64],
-    totals: Totals,
-) -> StepOutcome
-    ensures { Sees (step_after caller settings records.old (grids_of mass.old px.old py.old) totals) records.old totals
-        (told_stepped result.answer) records.new mass.new px.new py.new result.totals }
+) -> Stepped
+    ensures { Sees (step_after caller settings records.old (grids_of mass.old px.old py.old)) (told_stepped result) records.new mass.new px.new py.new }
 {
-    let outcome = run(caller, settings, 1, records, mass, px, py, totals);
-    let ran = outcome.answer;
-    let sums = outcome.totals;
-    StepOutcome {
-        answer: stepped(ran),
-        totals: sums,
+    match run(caller, settings, 1, records, mass, px, py) {
+        Ran::Done(_) => Stepped::Done,
+        Ran::Stopped(_, refusal) => Stepped::Refused(refusal),
     }
 }

@@ -29,7 +29,7 @@ fn turn(
     }
 }
 
-// Steps from the particles in `a`, as many as wanted or until one is refused. Crate repeat_set calls it.
+// Steps from the particles in `a`, as many as wanted or until one is refused. Crate run_set calls it.
 pub fn repeat(
     settings: Settings,
     steps: usize,

@@ -13,7 +13,6 @@ use limits::Caller;
 use program::{MOST_NODES, Printed};
 use refusal::Refusal;
 use report::{Outcome, REPORT_LENGTH};
-use totals::Totals;
 
 // The report of a refused file. `run_file` calls it.
 fn report_refusal(refusal: Refusal, file: &[u8], text: &mut [u8]) -> Printed
@@ -30,21 +29,18 @@ fn report_refusal(refusal: Refusal, file: &[u8], text: &mut [u8]) -> Printed
 // Runs a file that was accepted, and reports it. `run_file` calls it.
 fn run_accepted(
     h: Header,
-    totals: Totals,
     file: &mut [u8],
     mass: &mut [u64],
     px: &mut [i64],
     py: &mut [i64],
     text: &mut [u8],
 ) -> Printed
-    requires { AcceptedFile h totals file.old mass.old px.old py.old text.old }
+    requires { AcceptedFile h file.old mass.old px.old py.old text.old }
     ensures { Prints file.old (grids_of mass.old px.old py.old) text.old
         result file.new (grids_of mass.new px.new py.new) text.new }
 {
-    let outcome = file_run::run_records(h, &mut file[HEADER_LENGTH..], mass, px, py, totals);
-    let ran = outcome.answer;
-    let sums = outcome.totals;
-    let length = run_report::report_run(ran, sums, &file[HEADER_LENGTH..], text);
+    let ran = file_run::run_records(h, &mut file[HEADER_LENGTH..], mass, px, py);
+    let length = run_report::report_run(h, ran, &file[HEADER_LENGTH..], text);
     Printed {
         length,
         refused: false,
@@ -68,11 +64,8 @@ pub fn run_file(
     ensures grids { grids_of mass.new px.new py.new
         ≡ grids_after file.old (grids_of mass.old px.old py.old) }
 {
-    let read = file_reader::read_file(Caller::Bench, file, totals::none());
-    let answer = read.answer;
-    let totals = read.totals;
-    match answer {
+    match file_reader::read_file(Caller::Bench, file) {
         FileRead::Refused(refusal) => report_refusal(refusal, file, text),
-        FileRead::Accepted(h) => run_accepted(h, totals, file, mass, px, py, text),
+        FileRead::Accepted(h) => run_accepted(h, file, mass, px, py, text),
     }
 }

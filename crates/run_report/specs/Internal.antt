@@ -1,17 +1,20 @@
 -- What the internal functions are given and leave: their contracts name these, and no public one does. Assumes nothing.
 use Rattle.std.specs.Prelude.{ℕ, ◌≤◌, ◌≡◌, true, List, ◌++◌, length, drop}
-use Rattle.particles.specs.Set.{valid_length}
+use Rattle.refusal.specs.Refused.{gives}
+use Rattle.limits.specs.declared.Caller.TheVariants.{Bench}
+use Rattle.particles.specs.Set.{valid_length, particles_in}
 use Rattle.totals.specs.declared.Totals.{Totals}
-use Rattle.totals.specs.Running.{TrueOf}
+use Rattle.totals.specs.Totals.{totals_of, totals_answer}
 use Rattle.simulation.specs.declared.Ran.{Ran}
 use Rattle.simulation.specs.declared.Ran.TheVariants as ran
+use Rattle.bath_file.specs.declared.Header.{Header}
 use Rattle.report.specs.declared.Outcome.{Outcome}
 use Rattle.report.specs.declared.Outcome.TheVariants.{Done, Stopped}
 use Rattle.report.specs.Report.{report_length}
 
--- true totals of records that a run left, and a buffer that every report fits
-pub record Reportable (totals : Totals) (records text : List ℕ) : Type 0 where
-  pub true-totals : TrueOf totals records
+-- records that a run left, and a buffer that every report fits
+pub record Reportable (h : Header) (records text : List ℕ) : Type 0 where
+  pub totals : totals_answer Bench h.nx h.ny records ≡ gives (totals_of (particles_in records))
   pub whole : valid_length (length records) ≡ true
   pub room : report_length ≤ length text
 

@@ -1,17 +1,41 @@
-// A run from records to records: unpacked once, stepped, packed once, and the running totals brought up to date.
-ghost use Rattle.std.specs.Prelude.{◌*◌, ◌≤◌, length};
+// A run from records to records: unpacked once, stepped, packed once.
+ghost use Rattle.std.specs.Prelude.{◌≡◌, ◌*◌, ◌/◌, ◌≤◌, length};
+ghost use Rattle.particle.specs.Layout.{record_length};
 ghost use Rattle.particles.specs.Set.{record_count};
 ghost use Rattle.unpacked.specs.Unpacked.{per_particle};
-ghost use Rattle.simulation.specs.Internal.{RunReady, Runs};
+ghost use Rattle.packing.specs.Packing.{Packable};
+ghost use Rattle.simulation.specs.Internal.{Settles, RunReady, Runs, current, completed_by};
 
 use particle::RECORD_LENGTH;
 use settings::Settings;
-use simulation::RunOutcome;
-use totals::Totals;
+use simulation::Ran;
 use unpacked::NUMBERS;
 
-// Runs an accepted set with two arrays that have room for its numbers. Crate run calls it. One step by itself is what a program that
-// shows each calls most, so it has its own way, which sums no records.
+fn completed(ran: Ran) -> usize
+    ensures { result ≡ completed_by ran }
+{
+    match ran {
+        Ran::Done(steps) => steps,
+        Ran::Stopped(steps, _) => steps,
+    }
+}
+
+// Packs the particles after `steps` completed steps. `run_set` calls it.
+fn settle(steps: usize, a: &[i16], b: &[i16], records: &mut [u8])
+    requires { Packable (current steps a.now b.now) × (length records.old ≡ record_length * (length (current steps a.now b.now) / per_particle)) }
+    ensures { Settles steps (current steps a.now b.now) records.old records.new }
+{
+    if steps == 0 {
+        return;
+    }
+    if steps % 2 == 0 {
+        packing::pack_set(a, records);
+    } else {
+        packing::pack_set(b, records);
+    }
+}
+
+// Runs an accepted set with two arrays that have room for its numbers. Crate run calls it.
 pub fn run_set(
     settings: Settings,
     steps: usize,
@@ -19,19 +43,18 @@ pub fn run_set(
     mass: &mut [u64],
     px: &mut [i64],
     py: &mut [i64],
-    totals: Totals,
     a: &mut [i16],
     b: &mut [i16],
-) -> RunOutcome
-    requires { RunReady settings records.old mass.old px.old py.old totals × (per_particle * record_count records.old ≤ length a.old) × (per_particle * record_count records.old ≤ length b.old) }
-    ensures { Runs settings steps records.old mass.old px.old py.old totals result records.new mass.new px.new py.new }
+) -> Ran
+    requires { RunReady settings records.old mass.old px.old py.old × (per_particle * record_count records.old ≤ length a.old) × (per_particle * record_count records.old ≤ length b.old) }
+    ensures { Runs settings steps records.old mass.old px.old py.old result records.new mass.new px.new py.new }
 {
     let size = NUMBERS * (records.len() / RECORD_LENGTH);
     let from = &mut a[..size];
     let to = &mut b[..size];
+    let table = spline::weight_table();
     unpacking::unpack_set(records, from);
-    if steps == 1 {
-        return step_set::step_set(settings, records, mass, px, py, totals, from, to);
-    }
-    repeat_set::repeat_set(settings, steps, records, mass, px, py, totals, from, to)
+    let ran = run_core::repeat(settings, steps, &table, spline::D, mass, px, py, from, to);
+    settle(completed(ran), from, to, records);
+    ran
 }

@@ -27,8 +27,6 @@ use Rattle.entry.specs.Entry.{entry_answer}
 use Rattle.entry.proofs.Entry.{accepted}
 use Rattle.settings.specs.declared.Settings.{Settings}
 use Rattle.apic.specs.Step.{Grids}
-use Rattle.totals.specs.declared.Totals.{Totals}
-use Rattle.totals.proofs.Stored.{then-passed}
 use Rattle.simulation.specs.Step.{After, buffers_of, stepped, step_by, step_of, nodes_of, step_entry, step_from, step_after}
 use Rattle.simulation.specs.Run.{Completion, run_from, run_by, run_entry, run_after}
 use Rattle.simulation.specs.Demand3.{Accepted, Call, step, run, settings_of, leaves, completes, leaves_all, completes_all, settings_all, arrives}
@@ -59,7 +57,7 @@ works-append {ss} {ts} {a} v w =
 
 -- ---- entry
 
-module _ (caller : Caller) (s : Settings) (records : List ℕ) (totals : Totals) where
+module _ (caller : Caller) (s : Settings) (records : List ℕ) where
   ready-entry : (grids : Grids) (steps : ℕ) {ps : List Particle} → entry_answer caller s (buffers_of grids) steps records ≡ gives ps → Ready s records ps
   ready-entry grids steps e =
       let a = accepted caller s (buffers_of grids) steps records e in
@@ -68,13 +66,13 @@ module _ (caller : Caller) (s : Settings) (records : List ℕ) (totals : Totals)
         limits = accepted-limits s.nx s.ny records a.set;
       }
 
-  pub ready-step : (grids : Grids) {ps : List Particle} → step_entry caller s records grids totals ≡ gives ps → Ready s records ps
+  pub ready-step : (grids : Grids) {ps : List Particle} → step_entry caller s records grids ≡ gives ps → Ready s records ps
   unfolding step_entry
-  ready-step grids e = ready-entry grids 0 (then-passed totals (entry_answer caller s (buffers_of grids) 0 records) e).0
+  ready-step grids e = ready-entry grids 0 e
 
-  pub ready-run : (steps : ℕ) (grids : Grids) {ps : List Particle} → run_entry caller s steps records grids totals ≡ gives ps → Ready s records ps
+  pub ready-run : (steps : ℕ) (grids : Grids) {ps : List Particle} → run_entry caller s steps records grids ≡ gives ps → Ready s records ps
   unfolding run_entry
-  ready-run steps grids e = ready-entry grids steps (then-passed totals (entry_answer caller s (buffers_of grids) steps records) e).0
+  ready-run steps grids e = ready-entry grids steps e
 
 -- ---- one step
 
@@ -128,15 +126,15 @@ one-step s records ps h ready = go (step_of s ps) refl
 
 pub call-works : (c : Call) (records : List ℕ) → Accepted records → Works (replicate (completes c records) (settings_of c)) records (leaves c records)
 unfolding step_after run_after
-call-works (step caller s grids totals) records h = go (step_entry caller s records grids totals) refl
+call-works (step caller s grids) records h = go (step_entry caller s records grids) refl
   where
-    go : (a : Answer (List Particle)) → step_entry caller s records grids totals ≡ a → StepWorks s records (step_after caller s records grids totals)
-    go (gives ps) e = rw e (one-step s records ps h (ready-step caller s records totals grids e))
+    go : (a : Answer (List Particle)) → step_entry caller s records grids ≡ a → StepWorks s records (step_after caller s records grids)
+    go (gives ps) e = rw e (one-step s records ps h (ready-step caller s records grids e))
     go (refused n k) e = rw e (works-none h)
-call-works (run caller s steps grids totals) records h = go (run_entry caller s steps records grids totals) refl
+call-works (run caller s steps grids) records h = go (run_entry caller s steps records grids) refl
   where
-    go : (a : Answer (List Particle)) → run_entry caller s steps records grids totals ≡ a → RunWorks s records (run_after caller s steps records grids totals)
-    go (gives ps) e = rw e (run-works s steps records ps grids h (ready-run caller s records totals steps grids e))
+    go : (a : Answer (List Particle)) → run_entry caller s steps records grids ≡ a → RunWorks s records (run_after caller s steps records grids)
+    go (gives ps) e = rw e (run-works s steps records ps grids h (ready-run caller s records steps grids e))
     go (refused n k) e = rw e (works-none h)
 
 pub calls-work : (calls : List Call) (start : List ℕ) → Accepted start → Works (settings_all calls start) start (leaves_all calls start)

@@ -1,9 +1,9 @@
 -- Document 01's example of "The program", as calls. Assumes nothing.
 use mathlib.Core.Path.{◌≡◌, refl}
 use mathlib.Core.List.{List, [], ◌∷◌, map}
-use Prim.Native.Nat.{ℕ, ◌+◌, ◌^◌}
+use Prim.Native.Nat.{ℕ}
 use lib.ListN.{replicate}
-use lib.IntN.{ℤ, pos, negsuc, neg_ℤ}
+use lib.IntN.{ℤ, pos, negsuc}
 use Rattle.arith.specs.Rounding.{nearest}
 use Rattle.limits.specs.declared.Caller.TheVariants.{Bench, Page}
 use Rattle.spline.specs.Spline.{nearest_node, offset, on_axis, axis_weight}
@@ -13,8 +13,6 @@ use Rattle.particles.specs.Set.{checked_particle, set_from, records_of, particle
 use Rattle.apic.specs.Step.{node_mass, node_momentum, node_velocity, after_drag, updated_velocity, gathered_velocity, gathered_affine, moved, Grids}
 use Rattle.gathering.specs.Gather.{move_check, move_checks}
 use Rattle.update.specs.Update.{velocities}
-use Rattle.totals.specs.declared.Totals.{Totals}
-use Rattle.totals.specs.Running.{valid_totals, checked_totals, then_totals}
 use Rattle.settings.specs.declared.Edge.TheVariants.{Open}
 use Rattle.settings.specs.declared.Settings.{Settings}
 use Rattle.entry.specs.Entry.{checked_forces, begin_answer, entry_answer}
@@ -35,27 +33,19 @@ short = record { mass = replicate 15 5; x = replicate 16 (pos 5); y = replicate 
 abbrev start : List ℕ
 start = 0 ∷ 7 ∷ 0 ∷ 129 ∷ 0 ∷ 16 ∷ 1 ∷ 254 ∷ 0 ∷ 0 ∷ 0 ∷ 0 ∷ 0 ∷ 0 ∷ 200 ∷ []
 
--- running totals of any kind, and some of which one is too large
-abbrev stored : Totals
-stored = record { mass = pos 3; px = pos (2 ^ 43); py = neg_ℤ (pos (2 ^ 43)); spin = pos 7; motion = pos 0; marks = pos 2 }
-
-abbrev beyond : Totals
-beyond = record { mass = pos 3; px = pos (2 ^ 43 + 1); py = pos 0; spin = pos 7; motion = pos 0; marks = pos 2 }
-
--- a run of one step; a step with a buffer that is too short; a step with totals that are too large; a run that is stopped at its 16th
--- step, off the grid in y
+-- a run of one step; a step with a buffer that is too short; a run that is stopped at its 16th step, off the grid in y
 abbrev calls : List Call
-calls = run Page still 1 given stored ∷ step Page still short stored ∷ step Bench still given beyond ∷ run Bench still 40 given stored ∷ []
+calls = run Page still 1 given ∷ step Page still short ∷ run Bench still 40 given ∷ []
 
 abbrev line : Particle → List ℤ
 line p = pos p.identifier ∷ pos p.mass ∷ pos p.x ∷ pos p.y ∷ p.vx ∷ p.vy ∷ p.bxx ∷ p.bxy ∷ p.byx ∷ p.byy ∷ pos p.marks ∷ []
 
 record Worked : Type 0 where
   -- "7 2 67 62 3 -2 0 0 0 0 200"
-  first : map line (particles_in (leaves (run Page still 1 given stored) start)) ≡ (pos 7 ∷ pos 2 ∷ pos 67 ∷ pos 62 ∷ pos 3 ∷ negsuc 1 ∷ pos 0 ∷ pos 0 ∷ pos 0 ∷ pos 0 ∷ pos 200 ∷ []) ∷ []
+  first : map line (particles_in (leaves (run Page still 1 given) start)) ≡ (pos 7 ∷ pos 2 ∷ pos 67 ∷ pos 62 ∷ pos 3 ∷ negsuc 1 ∷ pos 0 ∷ pos 0 ∷ pos 0 ∷ pos 0 ∷ pos 200 ∷ []) ∷ []
   number : completes_all calls start ≡ 16
   last : map line (particles_in (leaves_all calls start)) ≡ (pos 7 ∷ pos 2 ∷ pos 112 ∷ pos 32 ∷ pos 3 ∷ negsuc 1 ∷ pos 0 ∷ pos 0 ∷ pos 0 ∷ pos 0 ∷ pos 200 ∷ []) ∷ []
 
 worked : Worked
-unfolding nearest nearest_node offset on_axis axis_weight particle_of record_of read_particle read_answer checked_particle set_from records_of node_mass node_momentum node_velocity after_drag updated_velocity gathered_velocity gathered_affine moved move_check move_checks velocities masses_by momenta_by velocities_by stepped_by step_by checked_forces entry_answer begin_answer valid_totals checked_totals then_totals step_entry step_from step_after run_by run_entry run_after still particles_in leaves_all completes_all
+unfolding nearest nearest_node offset on_axis axis_weight particle_of record_of read_particle read_answer checked_particle set_from records_of node_mass node_momentum node_velocity after_drag updated_velocity gathered_velocity gathered_affine moved move_check move_checks velocities masses_by momenta_by velocities_by stepped_by step_by checked_forces entry_answer begin_answer step_entry step_from step_after run_by run_entry run_after still particles_in leaves_all completes_all
 worked = record { first = refl; number = refl; last = refl }

@@ -35,7 +35,6 @@ use Rattle.simulation.specs.declared.Ran.{Ran}
 use Rattle.simulation.specs.declared.Ran.TheVariants.{Done, Stopped}
 use Rattle.simulation.specs.Step.{After, seen, nodes_by, stepped_by, step_by}
 use Rattle.simulation.specs.Run.{Completion, after_one, run_by, run_from, told_ran}
-use Rattle.totals.specs.declared.Totals.{Totals}
 use Rattle.simulation.specs.Internal.{StepReady, StepLeaves, Turns, RepeatsFrom, Repeats, Settles, RunReady, told_gathered_to, current, other, records_after, completed_by}
 use Rattle.simulation.proofs.Steps.{completed, limits-after, kept-labels}
 use Rattle.simulation.proofs.Refusals.{grid-limits, velocity-limits}
@@ -53,15 +52,15 @@ module _ (w : ℕ → ℕ → ℤ) (D : ℕ) (s : Settings) (m : ℕ) (records :
       either a (λ qs. after_one (run_by w D s m (records_of qs) qs (nodes_by w D s ps)))
       (λ k p. seen (record { completed = 0; stop = refused k p }) records (nodes_by w D s ps))
 
-  pub run_on : {qs : List Particle} → step_by w D s ps ≡ gives qs → run_by w D s (suc m) records ps grids ≡ after_one (run_by w D s m (records_of qs) qs (nodes_by w D s ps))
+  run_on : {qs : List Particle} → step_by w D s ps ≡ gives qs → run_by w D s (suc m) records ps grids ≡ after_one (run_by w D s m (records_of qs) qs (nodes_by w D s ps))
   unfolding run_by
   run_on e = ap by e
 
-  pub run-stops : {n k : ℕ} → step_by w D s ps ≡ refused n k → run_by w D s (suc m) records ps grids ≡ seen (record { completed = 0; stop = refused n k }) records (nodes_by w D s ps)
+  run-stops : {n k : ℕ} → step_by w D s ps ≡ refused n k → run_by w D s (suc m) records ps grids ≡ seen (record { completed = 0; stop = refused n k }) records (nodes_by w D s ps)
   unfolding run_by
   run-stops e = ap by e
 
-pub run_none : (w : ℕ → ℕ → ℤ) (D : ℕ) (s : Settings) (records : List ℕ) (ps : List Particle) (grids : Grids) → run_by w D s 0 records ps grids ≡ seen (record { completed = 0; stop = done }) records grids
+run_none : (w : ℕ → ℕ → ℤ) (D : ℕ) (s : Settings) (records : List ℕ) (ps : List Particle) (grids : Grids) → run_by w D s 0 records ps grids ≡ seen (record { completed = 0; stop = done }) records grids
 unfolding run_by
 run_none w D s records ps grids = refl
 
@@ -232,12 +231,12 @@ module _ {s : Settings} {steps : ℕ} {weights : List (List ℕ)} {d : ℕ} {sou
 
 -- ---- from records to numbers and back
 
-module _ {s : Settings} {records mass : List ℕ} {px py : List ℤ} {totals : Totals} (ready : RunReady s records mass px py totals) where
-  pub bytes : length records ≡ record_length * record_count records
+module _ {s : Settings} {records mass : List ℕ} {px py : List ℤ} (ready : RunReady s records mass px py) where
+  bytes : length records ≡ record_length * record_count records
   bytes = sym (length-limits (length records) (entered Bench s.nx s.ny records ready.set).whole).whole
 
   module _ {a : List ℤ} (e : a ≡ unpacked (particles_in records)) where
-    pub holds : Holds s.nx s.ny a (particles_in records)
+    holds : Holds s.nx s.ny a (particles_in records)
     holds = subst (λ l. Holds s.nx s.ny l (particles_in records)) (sym e) (unpacked-accepted s.nx s.ny records ready.set)
 
     pub repeat-ready : {weights : List (List ℕ)} {d : ℕ} {b : List ℤ} → Kernel weights d → length b ≡ length a → StepReady s a weights d mass px py b

@@ -16,7 +16,6 @@ use Rattle.apic.specs.Step.{Axis, gravity, Grids}
 use Rattle.apic.specs.Totals.{total_mass, momentum, angular_momentum, total_marks, torque, impulse, angular_impulse, first_moment}
 use Rattle.particles.specs.Set.{particles_in, check_answer}
 use Rattle.settings.specs.declared.Settings.{Settings}
-use Rattle.totals.specs.declared.Totals.{Totals}
 use Rattle.simulation.specs.Step.{stepped, step_of, step_after}
 use Rattle.simulation.specs.Run.{run_after}
 
@@ -31,25 +30,25 @@ pub record Accepted (records : List ℕ) : Type 0 where
 
 -- ---- calls
 
--- a call is who makes it, and everything that a step or run is given beside the records: settings, the number of steps, the three
--- grids with any contents and any lengths, and running totals of any contents
+-- a call is who makes it, and everything that a step or run is given beside the records: settings, the number of steps, and the
+-- three grids with any contents and any lengths
 pub data Call : Type 0 where
-  step : Caller → Settings → Grids → Totals → Call
-  run : Caller → Settings → ℕ → Grids → Totals → Call
+  step : Caller → Settings → Grids → Call
+  run : Caller → Settings → ℕ → Grids → Call
 
 abbrev pub settings_of : Call → Settings
-settings_of (step caller s grids totals) = s
-settings_of (run caller s steps grids totals) = s
+settings_of (step caller s grids) = s
+settings_of (run caller s steps grids) = s
 
 -- the records that a call leaves
 abbrev pub leaves : Call → List ℕ → List ℕ
-leaves (step caller s grids totals) records = (step_after caller s records grids totals).records
-leaves (run caller s steps grids totals) records = (run_after caller s steps records grids totals).records
+leaves (step caller s grids) records = (step_after caller s records grids).records
+leaves (run caller s steps grids) records = (run_after caller s steps records grids).records
 
 -- the number of steps that it says it completed: one or none, or the number that the run answers
 abbrev pub completes : Call → List ℕ → ℕ
-completes (step caller s grids totals) records = either (step_after caller s records grids totals).answer (λ _. 1) (λ n k. 0)
-completes (run caller s steps grids totals) records = (run_after caller s steps records grids totals).answer.completed
+completes (step caller s grids) records = either (step_after caller s records grids).answer (λ _. 1) (λ n k. 0)
+completes (run caller s steps grids) records = (run_after caller s steps records grids).answer.completed
 
 -- ---- lists of calls: each gets the records that the one before left
 

@@ -1,6 +1,6 @@
 -- What the internal functions of a step and a run are given and leave: their contracts name these, and no public one does.
 -- Assumes nothing.
-use Rattle.std.specs.Prelude.{◌≡◌, true, cond, List, ℕ, zero, suc, ◌*◌, ◌%◌, ◌≤◌, eqb, length, ℤ}
+use Rattle.std.specs.Prelude.{◌≡◌, cond, List, ℕ, zero, suc, ◌*◌, ◌%◌, ◌≤◌, eqb, length, ℤ}
 use Rattle.refusal.specs.Refused.{Answer, gives, refused_by}
 use Rattle.limits.specs.declared.Caller.TheVariants.{Bench}
 use Rattle.spline.specs.Kernel.{Kernel}
@@ -12,10 +12,7 @@ use Rattle.gathering.specs.declared.Gathered.{Gathered}
 use Rattle.gathering.specs.declared.Gathered.TheVariants.{Done, Refused}
 use Rattle.settings.specs.declared.Settings.{Settings}
 use Rattle.settings.specs.Settings.{ForceLimits}
-use Rattle.totals.specs.declared.Totals.{Totals}
-use Rattle.totals.specs.Running.{valid_totals, changed}
 use Rattle.simulation.specs.declared.Ran.{Ran}
-use Rattle.simulation.specs.declared.RunOutcome.{RunOutcome}
 use Rattle.apic.specs.Step.{Grids, grids_of}
 use Rattle.simulation.specs.Step.{seen, nodes_by, stepped_by, step_by}
 use Rattle.simulation.specs.Run.{told_ran, run_by, run_from}
@@ -85,10 +82,10 @@ abbrev pub Settles : ℕ → List ℤ → List ℕ → List ℕ → Type 0
 Settles steps l records records' =
     (ps : List Particle) → l ≡ unpacked ps → labels ps ≡ labels (particles_in records) → records' ≡ records_after records steps ps
 
--- what a run of accepted records, with running totals that have passed their check, answers and leaves
-pub record Runs (s : Settings) (steps : ℕ) (records mass : List ℕ) (px py : List ℤ) (totals : Totals) (r : RunOutcome) (records' mass' : List ℕ) (px' py' : List ℤ) : Type 0 where
-  pub is : seen (told_ran r.answer) records' (grids_of mass' px' py') ≡ run_from s steps records (particles_in records) (grids_of mass px py)
-  pub totals-are : r.totals ≡ changed totals records records'
+-- what a run of accepted records answers and leaves
+abbrev pub Runs : Settings → ℕ → List ℕ → List ℕ → List ℤ → List ℤ → Ran → List ℕ → List ℕ → List ℤ → List ℤ → Type 0
+Runs s steps records mass px py r records' mass' px' py' =
+    seen (told_ran r) records' (grids_of mass' px' py') ≡ run_from s steps records (particles_in records) (grids_of mass px py)
 
 -- a small set and a middle one have at most so many records
 abbrev pub small : ℕ
@@ -97,19 +94,12 @@ small = 64
 abbrev pub middle : ℕ
 middle = 512
 
--- an accepted set, its grids, and running totals that have passed their check
-pub record RunReady (s : Settings) (records mass : List ℕ) (px py : List ℤ) (totals : Totals) : Type 0 where
+-- an accepted set and its grids
+pub record RunReady (s : Settings) (records mass : List ℕ) (px py : List ℤ) : Type 0 where
   pub particles : List Particle
   pub set : set_answer Bench s.nx s.ny records ≡ gives particles
   pub most : length records ≤ set_length
-  pub stored : valid_totals totals ≡ true
   pub forces : ForceLimits s
   pub mass-long : length mass ≡ s.nx * s.ny
   pub px-long : length px ≡ s.nx * s.ny
   pub py-long : length py ≡ s.nx * s.ny
-
--- the same with its particles in an array, and another array for those of a step
-pub record UnpackedRun (s : Settings) (records mass : List ℕ) (px py : List ℤ) (totals : Totals) (from to : List ℤ) : Type 0 where
-  pub ready : RunReady s records mass px py totals
-  pub holds : from ≡ unpacked (particles_in records)
-  pub room : length to ≡ length from

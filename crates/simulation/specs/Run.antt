@@ -8,8 +8,6 @@ use Rattle.entry.specs.Entry.{entry_answer}
 use Rattle.particle.specs.declared.Particle.{Particle}
 use Rattle.particles.specs.Set.{records_of}
 use Rattle.settings.specs.declared.Settings.{Settings}
-use Rattle.totals.specs.declared.Totals.{Totals}
-use Rattle.totals.specs.Running.{then_totals}
 use Rattle.simulation.specs.declared.Ran.{Ran}
 use Rattle.simulation.specs.declared.Ran.TheVariants.{Done, Stopped}
 use Rattle.apic.specs.Step.{Grids}
@@ -42,14 +40,14 @@ run_by w d s (suc n) records ps grids =
 abbrev pub run_from : Settings → ℕ → List ℕ → List Particle → Grids → After Completion
 run_from = run_by axis_weight D
 
--- 2; 1, also for the grid buffers; 3; 10; 18; 19; 17 steps above 10,000; the set; 25 a stored total
-unfoldable pub run_entry : Caller → Settings → ℕ → List ℕ → Grids → Totals → Answer (List Particle)
-run_entry caller s steps records grids totals = then_totals totals (entry_answer caller s (buffers_of grids) steps records)
+-- 2; 1, also for the grid buffers; 3; 10; 18; 19; 17 steps above 10,000; the set
+unfoldable pub run_entry : Caller → Settings → ℕ → List ℕ → Grids → Answer (List Particle)
+run_entry caller s steps records grids = entry_answer caller s (buffers_of grids) steps records
 
 -- "a run refused at entry answers 0 completed steps with that refusal", and nothing has changed
-unfoldable pub run_after : Caller → Settings → ℕ → List ℕ → Grids → Totals → After Completion
-run_after caller s steps records grids totals =
-    either (run_entry caller s steps records grids totals) (λ ps. run_from s steps records ps grids)
+unfoldable pub run_after : Caller → Settings → ℕ → List ℕ → Grids → After Completion
+run_after caller s steps records grids =
+    either (run_entry caller s steps records grids) (λ ps. run_from s steps records ps grids)
     (λ n k. record { answer = record { completed = 0; stop = refused n k }; records = records; grids = grids })
 
 abbrev pub told_ran : Ran → Completion

@@ -1,5 +1,5 @@
 -- Documents 01 and 02, "The step" and the operation step: scatter, update and gather on a particle set, and what a caller with any
--- numbers and any buffers sees after a call: the answer, the records, the three grids and the running totals. Assumes nothing.
+-- numbers and any buffers sees after a call: the answer, the records and the three grids. Assumes nothing.
 use Rattle.std.specs.Prelude.{◌≡◌, List, map, ℕ, length, ℤ, nat_abs}
 use Rattle.refusal.specs.Refused.{Answer, gives, refused, refused_by, either, done}
 use Rattle.limits.specs.declared.Caller.{Caller}
@@ -11,8 +11,6 @@ use Rattle.gathering.specs.Gather.{gathered, move_checks}
 use Rattle.entry.specs.declared.Buffers.{Buffers}
 use Rattle.entry.specs.declared.Buffers.TheVariants.{Three}
 use Rattle.entry.specs.Entry.{entry_answer}
-use Rattle.totals.specs.declared.Totals.{Totals}
-use Rattle.totals.specs.Running.{then_totals, changed}
 use Rattle.update.specs.Update.{velocities}
 use Rattle.settings.specs.declared.Settings.{Settings}
 use Rattle.simulation.specs.declared.Stepped.{Stepped}
@@ -78,24 +76,22 @@ pub record After (A : Type 0) : Type 0 where
 abbrev pub seen : {A : Type 0} → A → List ℕ → Grids → After A
 seen answer records grids = record { answer = answer; records = records; grids = grids }
 
--- what a caller sees who gave these records and running totals is what a definition says, and nothing else: for the promises of step
--- and run. The totals have changed as the records have, so a call that moves no record leaves them as they were
-pub record Sees {A : Type 0} (after : After A) (records : List ℕ) (totals : Totals) (told : A) (bytes mass : List ℕ) (x y : List ℤ) (sums : Totals) : Type 0 where
+-- what a caller sees is what a definition says, and nothing else: for the promises of step and run
+pub record Sees {A : Type 0} (after : After A) (told : A) (bytes mass : List ℕ) (x y : List ℤ) : Type 0 where
   pub answer : told ≡ after.answer
-  pub records-are : bytes ≡ after.records
+  pub records : bytes ≡ after.records
   pub masses : mass ≡ after.grids.mass
   pub x-velocities : x ≡ after.grids.x
   pub y-velocities : y ≡ after.grids.y
-  pub totals-are : sums ≡ changed totals records after.records
 
 -- ---- the operation
 
 abbrev pub buffers_of : Grids → Buffers
 buffers_of grids = Three (length grids.mass) (length grids.x) (length grids.y)
 
--- 2; 1, also for the grid buffers; 3; 10; 18; 19; the set; 25 a stored total
-unfoldable pub step_entry : Caller → Settings → List ℕ → Grids → Totals → Answer (List Particle)
-step_entry caller s records grids totals = then_totals totals (entry_answer caller s (buffers_of grids) 0 records)
+-- 2; 1, also for the grid buffers; 3; 10; 18; 19; the set
+unfoldable pub step_entry : Caller → Settings → List ℕ → Grids → Answer (List Particle)
+step_entry caller s records grids = entry_answer caller s (buffers_of grids) 0 records
 
 -- a step from the particles ps of the records: on 13, 14, 15 no record has moved
 unfoldable pub step_from : Settings → List ℕ → List Particle → After (Answer Unit)
@@ -105,9 +101,9 @@ step_from s records ps =
     (λ n k. record { answer = refused n k; records = records; grids = nodes_of s ps })
 
 -- refused at entry, nothing has changed
-unfoldable pub step_after : Caller → Settings → List ℕ → Grids → Totals → After (Answer Unit)
-step_after caller s records grids totals =
-    either (step_entry caller s records grids totals) (λ ps. step_from s records ps)
+unfoldable pub step_after : Caller → Settings → List ℕ → Grids → After (Answer Unit)
+step_after caller s records grids =
+    either (step_entry caller s records grids) (λ ps. step_from s records ps)
     (λ n k. record { answer = refused n k; records = records; grids = grids })
 
 abbrev pub told_stepped : Stepped → Answer Unit

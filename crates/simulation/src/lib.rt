@@ -1,6 +1,5 @@
 // The answers of a step and a run. What they do stands in specs/, what follows from it in proofs/.
 use refusal::Refusal;
-use totals::Totals;
 
 // The answer of a step.
 #[derive(Drop)]
@@ -14,18 +13,4 @@ pub enum Stepped {
 pub enum Ran {
     Done(usize),
     Stopped(usize, Refusal),
-}
-
-// A step's answer and the running totals after it.
-#[derive(Drop)]
-pub struct StepOutcome {
-    pub answer: Stepped,
-    pub totals: Totals,
-}
-
-// A run's.
-#[derive(Drop)]
-pub struct RunOutcome {
-    pub answer: Ran,
-    pub totals: Totals,
 }

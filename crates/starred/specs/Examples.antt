@@ -12,7 +12,6 @@ use Rattle.particles.specs.Set.{check_answer, records_of, particles_in}
 use Rattle.unpacked.specs.Unpacked.{numbers}
 use Rattle.apic.specs.Step.{Grids}
 use Rattle.settings.specs.declared.Edge.TheVariants.{Open}
-use Rattle.totals.specs.Totals.{no_totals}
 use Rattle.simulation.specs.Step.{After, step_after}
 
 -- without Bxy, Byx and Byy, and with two marks more than its identifier
@@ -40,12 +39,12 @@ weighing q = and_then (weights_answer q) (λ w. gives (w.lower ∷ w.nearest ∷
 abbrev checking : ℕ → Answer (List ℤ)
 checking x = and_then (check_answer Bench 4 5 (record_of (particle 1 1 x 200 (pos 0) (pos 0) (pos 0)))) (λ n. gives (pos n ∷ []))
 
--- a step of these particles' records, under this gravity, in grids that hold something, with running totals of zero
+-- a step of these particles' records, under this gravity, in grids that hold something
 abbrev lent : Grids
 lent = record { mass = replicate 20 3; x = replicate 20 (pos 5); y = replicate 20 (neg_ℤ (pos 7)) }
 
 abbrev after : ℤ → ℤ → List Particle → After (Answer Unit)
-after gx gy ps = step_after Bench (record { nx = 4; ny = 5; gx = gx; gy = gy; edge = Open; drag = 0 }) (records_of ps) lent no_totals
+after gx gy ps = step_after Bench (record { nx = 4; ny = 5; gx = gx; gy = gy; edge = Open; drag = 0 }) (records_of ps) lent
 
 abbrev listed : List Particle → List ℤ
 listed [] = []

@@ -5,7 +5,7 @@ ghost use Rattle.simulation.specs.Internal.{StepReady, Steps};
 use gathering::Gathered;
 use settings::Settings;
 
-// The step: scatter, update, gather. Crates run_core and step_set call it.
+// The step: scatter, update, gather. Crate run_core calls it.
 pub fn step_particles(
     settings: Settings,
     from: &[i16],

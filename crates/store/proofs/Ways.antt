@@ -1,7 +1,6 @@
 -- What the operations promise, way by way.
 --     keep-begun, keep-bath, keep-placed, keeps-full, keeps-there    keep
---     return-begun, return-nothing, return-file                      return: the answer and the buffer
---     return_refused, return_read, copied-fits                       and its totals
+--     return-begun, return-nothing, return-file                      return
 --     forget-begun, forget-nothing, forget-place                     forget
 -- Assumes nothing.
 use mathlib.Core.Path.{◌≡◌, refl, sym, ap, ap₂, ◌∙◌}
@@ -11,21 +10,17 @@ use Prim.Native.Nat.{ℕ, ◌≤◌, ◌<◌}
 use native.Mathlib.Omega.{arith}
 use borrow.Author.Tests.{le-leb}
 use lib.Dec.{leb, ltb}
-use lib.ListN.{length, take, drop, length-append}
-use lib.Seq.{take_at}
+use lib.ListN.{length, drop}
 use Rattle.refusal.specs.Refused.{Answer, gives, refused, refuse_if, and_then, either, told_of, done, Leaves}
-use Rattle.refusal.proofs.Answers.{went_on, same-result, not-result, refused-leaves, done-leaves}
+use Rattle.refusal.proofs.Answers.{refused-leaves, done-leaves}
 use Rattle.limits.specs.declared.Caller.{Caller}
-use Rattle.limits.specs.declared.Caller.TheVariants.{Bench}
-use Rattle.totals.specs.declared.Totals.{Totals}
-use Rattle.totals.specs.Running.{totals_in}
 use Rattle.bath_file.specs.declared.Header.{Header}
-use Rattle.bath_file.specs.File.{file_answer, records_in, read_totals}
+use Rattle.bath_file.specs.File.{file_answer}
 use Rattle.store.specs.Form.{most_file, place_count, file_in, place_at, valid_store, place_of, holds}
-use Rattle.store.specs.Operations.{checked_call, with_place, place_for, kept_place, keep_answer, keep_leaves, held_answer, return_answer, return_leaves, return_totals, free_place, forget_answer, forget_leaves, length_of, KeepIs, Copies, ReturnIs, ForgetIs}
+use Rattle.store.specs.Operations.{checked_call, with_place, place_for, kept_place, keep_answer, keep_leaves, held_answer, return_answer, return_leaves, free_place, forget_answer, forget_leaves, length_of, KeepIs, ReturnIs, ForgetIs}
 use Rattle.store.specs.Internal.{Begun, KeepsAt}
 use Rattle.store.proofs.Answers.{good-call, refused-call, is-there, is-not, last, keep-own, keep-last}
-use Rattle.store.proofs.Calls.{found, not_found, return-passed}
+use Rattle.store.proofs.Calls.{found, not_found}
 
 -- ---- keep
 
@@ -61,14 +56,14 @@ module _ (store name buffer : List ℕ) where
   abbrev front : List ℕ → List ℕ
   front file = file ++ drop (length file) buffer
 
-  return-by : (a : Answer (List ℕ)) → return_answer store name buffer ≡ a → Copies store name buffer (length_of a) (either a front (λ n k. buffer))
+  return-by : (a : Answer (List ℕ)) → return_answer store name buffer ≡ a → ReturnIs store name buffer (length_of a) (either a front (λ n k. buffer))
   unfolding return_leaves
   return-by a e = record { answer = ap length_of (sym e); buffer-is = ap (λ a. either a front (λ n k. buffer)) (sym e) }
 
   abbrev lent : Bool
   lent = valid_store store && leb most_file (length buffer)
 
-  pub return-begun : {n k : ℕ} → checked_call lent name done ≡ refused n k → Copies store name buffer (refused n k) buffer
+  pub return-begun : {n k : ℕ} → checked_call lent name done ≡ refused n k → ReturnIs store name buffer (refused n k) buffer
   unfolding return_answer
   return-begun {n} {k} e = return-by (refused n k) (refused-call lent name (held_answer (holds store name)) e)
 
@@ -77,66 +72,11 @@ module _ (store name buffer : List ℕ) where
     unfolding return_answer
     found-is = good-call lent name (held_answer (holds store name)) (ap₂ ◌&&◌ b.form (le-leb most_file (length buffer) room)) b.named
 
-    pub return-nothing : k ≡ place_count → Copies store name buffer (refused 23 0) buffer
+    pub return-nothing : k ≡ place_count → ReturnIs store name buffer (refused 23 0) buffer
     return-nothing l = return-by (refused 23 0) (found-is ∙ ap held_answer (not_found store name b.named (omega (arith, e, l))))
 
-    pub return-file : k < place_count → Copies store name buffer (gives (length (file_in (place_at store k)))) (front (file_in (place_at store k)))
+    pub return-file : k < place_count → ReturnIs store name buffer (gives (length (file_in (place_at store k)))) (front (file_in (place_at store k)))
     return-file l = return-by (gives (file_in (place_at store k))) (found-is ∙ ap held_answer (found store name b.named k e l))
-
--- ---- and its totals, by what reading the copied file leaves
-
-module _ (store name buffer : List ℕ) (totals : Totals) where
-  abbrev returned_by : Answer (List ℕ) → Totals
-  returned_by a = either a (λ file. totals_in (records_in file)) (λ n k. totals)
-
-  pub return_refused : {n k : ℕ} {left : List ℕ} → Copies store name buffer (refused n k) left → ReturnIs store name buffer totals (refused n k) left totals
-  unfolding return_totals
-  return_refused {n} {k} c = record { copies = c; totals-are = go (return_answer store name buffer) c.answer }
-    where
-      go : (a : Answer (List ℕ)) → refused n k ≡ length_of a → totals ≡ returned_by a
-      go (gives file) e = not-result e
-      go (refused m j) e = refl
-
-  module _ {n : ℕ} {left : List ℕ} (c : Copies store name buffer (gives n) left) where
-    -- the file, which stands at the buffer's front
-    record Copied : Type 0 where
-      file : List ℕ
-      answer : return_answer store name buffer ≡ gives file
-      long : n ≡ length file
-      left_is : left ≡ file ++ drop (length file) buffer
-
-    copied : Copied
-    unfolding return_leaves
-    copied =
-        let w = went_on (return_answer store name buffer) (λ file. gives (length file)) (sym c.answer) in
-        record {
-          file = w.0;
-          answer = w.1;
-          long = sym (same-result w.2);
-          left_is = c.buffer-is ∙ ap (λ a. either a (λ file. file ++ drop (length file) buffer) (λ n k. buffer)) w.1;
-        }
-
-    pub copied-fits : n ≤ length left
-    copied-fits =
-        omega (arith, copied.long, ap length copied.left_is, length-append copied.file (drop (length copied.file) buffer))
-
-    front-is : take n left ≡ copied.file
-    front-is =
-        ap (take n) copied.left_is
-        ∙ take_at copied.file (drop (length copied.file) buffer) n (sym copied.long)
-
-    pub return_read : {sums : Totals} → sums ≡ read_totals Bench (take n left) totals → ReturnIs store name buffer totals (gives n) left sums
-    unfolding return_totals read_totals
-    return_read e =
-        let passed = return-passed store name buffer copied.answer in
-        record {
-          copies = c;
-          totals-are =
-              e
-              ∙ ap (λ f. either (file_answer Bench f) (λ _. totals_in (records_in f)) (λ n k. totals)) front-is
-              ∙ ap (λ a. either a (λ _. totals_in (records_in copied.file)) (λ n k. totals)) passed.accepts
-              ∙ sym (ap returned_by copied.answer);
-        }
 
 -- ---- forget
 

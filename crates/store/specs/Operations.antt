@@ -1,13 +1,11 @@
--- Document 02, Papers 8 to 10: keep, return and forget. What each answers for any name and any buffers, and what it leaves in the
--- store, in the buffer and of running totals: a refused call changes nothing. Assumes nothing.
+-- Document 02, Papers 8 and 9: keep, return and forget. What each answers for any name and any buffers, and what it leaves in the
+-- store and in the buffer: a refused call changes nothing. Assumes nothing.
 use Rattle.std.specs.Prelude.{◌≡◌, Bool, not, cond, ◌&&◌, List, [], ◌++◌, ℕ, ◌*◌, leb, ltb, length, drop}
 use Rattle.std.proofs.Math.Option.{Option, none, some}
 use Rattle.arith.specs.Lists.{placed}
 use Rattle.refusal.specs.Refused.{Answer, gives, refused, refused_by, refuse_if, and_then, either, told_of, done}
 use Rattle.limits.specs.declared.Caller.{Caller}
-use Rattle.totals.specs.declared.Totals.{Totals}
-use Rattle.totals.specs.Running.{totals_in}
-use Rattle.bath_file.specs.File.{file_answer, records_in}
+use Rattle.bath_file.specs.File.{file_answer}
 use Rattle.store.specs.declared.Changed.{Changed}
 use Rattle.store.specs.declared.Changed.TheVariants as changed
 use Rattle.store.specs.declared.Returned.{Returned}
@@ -61,11 +59,6 @@ unfoldable pub return_leaves : List ℕ → List ℕ → List ℕ → List ℕ
 return_leaves store name buffer =
     either (return_answer store name buffer) (λ file. file ++ drop (length file) buffer) (λ n k. buffer)
 
--- the totals are set to the true sums of the file's records, whatever they were
-unfoldable pub return_totals : List ℕ → List ℕ → List ℕ → Totals → Totals
-return_totals store name buffer totals =
-    either (return_answer store name buffer) (λ file. totals_in (records_in file)) (λ n k. totals)
-
 -- ---- forget
 
 -- every byte zero
@@ -100,14 +93,9 @@ pub record KeepIs (caller : Caller) (store name file : List ℕ) (told : Answer 
   pub answer : told ≡ told_of (keep_answer caller store name file)
   pub store_is : left ≡ keep_leaves caller store name file
 
--- the answer and the buffer of a return, and then the totals
-pub record Copies (store name buffer : List ℕ) (told : Answer ℕ) (left : List ℕ) : Type 0 where
+pub record ReturnIs (store name buffer : List ℕ) (told : Answer ℕ) (left : List ℕ) : Type 0 where
   pub answer : told ≡ length_of (return_answer store name buffer)
   pub buffer-is : left ≡ return_leaves store name buffer
-
-pub record ReturnIs (store name buffer : List ℕ) (totals : Totals) (told : Answer ℕ) (left : List ℕ) (totals' : Totals) : Type 0 where
-  pub copies : Copies store name buffer told left
-  pub totals-are : totals' ≡ return_totals store name buffer totals
 
 pub record ForgetIs (store name : List ℕ) (told : Answer Unit) (left : List ℕ) : Type 0 where
   pub answer : told ≡ told_of (forget_answer store name)

@@ -3,7 +3,6 @@
 use bath_file::HEADER_LENGTH;
 use particles::SET_LENGTH;
 use refusal::Refusal;
-use totals::Totals;
 
 // The longest name in bytes, and the longest file.
 pub const NAME_LENGTH: usize = 8;
@@ -29,11 +28,4 @@ pub enum Changed {
 pub enum Returned {
     Length(usize),
     Refused(Refusal),
-}
-
-// And the running totals after it.
-#[derive(Drop)]
-pub struct ReturnOutcome {
-    pub answer: Returned,
-    pub totals: Totals,
 }

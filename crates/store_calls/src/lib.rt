@@ -2,14 +2,13 @@
 ghost use Rattle.std.specs.Prelude.{◌≡◌, ◌&&◌, leb};
 ghost use Rattle.refusal.specs.Refused.{done};
 ghost use Rattle.store.specs.Form.{most_file, valid_store};
-ghost use Rattle.store.specs.Operations.{checked_call, told_changed, told_returned, KeepIs, Copies, ReturnIs, ForgetIs};
+ghost use Rattle.store.specs.Operations.{checked_call, told_changed, told_returned, KeepIs, ReturnIs, ForgetIs};
 ghost use Rattle.store.specs.Internal.{Begun, Returnable, Keepable, KeepsAt};
 
 use bath_file::FileRead;
 use limits::Caller;
 use refusal::Refusal;
-use store::{Changed, MOST_FILE, PLACE_COUNT, ReturnOutcome, Returned};
-use totals::Totals;
+use store::{Changed, MOST_FILE, PLACE_COUNT, Returned};
 
 // The checks that every call begins with: 1 where its buffers are not as they must be, and 22. The operations call it.
 fn begin(valid: bool, name: &[u8]) -> Changed
@@ -43,7 +42,7 @@ fn keep_named(caller: Caller, store: &mut [u8], name: &[u8], file: &[u8]) -> Cha
     requires { Begun store.old name.now }
     ensures { KeepIs caller store.old name.now file.now (told_changed result) store.new }
 {
-    match file_reader::check_file(caller, file) {
+    match file_reader::read_file(caller, file) {
         FileRead::Refused(refusal) => Changed::Refused(refusal),
         FileRead::Accepted(_) => keep_file(store, name, file),
     }
@@ -59,17 +58,17 @@ pub fn keep(caller: Caller, store: &mut [u8], name: &[u8], file: &[u8]) -> Chang
     }
 }
 
-// A store is of its length and form, and a buffer of this length has room for the longest file. `copy_held` calls it.
+// A store is of its length and form, and a buffer of this length has room for the longest file. `return_to` calls it.
 fn valid_buffers(store: &[u8], room: usize) -> bool
     ensures { result ≡ (valid_store store.now && leb most_file room) }
 {
     store_form::valid_store(store) && MOST_FILE <= room
 }
 
-// Copies a bath by a name that has passed its checks, with buffers that have passed theirs. `copy_held` calls it.
-fn copy_named(store: &[u8], name: &[u8], buffer: &mut [u8]) -> Returned
+// Returns to a bath by a name that has passed its checks, with buffers that have passed theirs. `return_to` calls it.
+fn return_named(store: &[u8], name: &[u8], buffer: &mut [u8]) -> Returned
     requires { Returnable store.now name.now buffer.old }
-    ensures { Copies store.now name.now buffer.old (told_returned result) buffer.new }
+    ensures { ReturnIs store.now name.now buffer.old (told_returned result) buffer.new }
 {
     let k = store_place::place_of(store, name);
     if k == PLACE_COUNT {
@@ -78,34 +77,13 @@ fn copy_named(store: &[u8], name: &[u8], buffer: &mut [u8]) -> Returned
     Returned::Length(store_place::copy_file(store, k, buffer))
 }
 
-// The file under a name, written at the front of a buffer that has room for the longest. `return_to` calls it.
-fn copy_held(store: &[u8], name: &[u8], buffer: &mut [u8]) -> Returned
-    ensures { Copies store.now name.now buffer.old (told_returned result) buffer.new }
+// Return: the file under a name, written at the front of a buffer that has room for the longest.
+pub fn return_to(store: &[u8], name: &[u8], buffer: &mut [u8]) -> Returned
+    ensures { ReturnIs store.now name.now buffer.old (told_returned result) buffer.new }
 {
     match begin(valid_buffers(store, buffer.len()), name) {
         Changed::Refused(refusal) => Returned::Refused(refusal),
-        Changed::Done => copy_named(store, name, buffer),
-    }
-}
-
-// Return: the file under a name, written at the front of a buffer that has room for the longest; the totals are then those of its
-// records. This is the return by value: crates running_totals and gondwize call it.
-pub fn return_to(store: &[u8], name: &[u8], buffer: &mut [u8], totals: Totals) -> ReturnOutcome
-    ensures { ReturnIs store.now name.now buffer.old totals (told_returned result.answer) buffer.new result.totals }
-{
-    match copy_held(store, name, buffer) {
-        Returned::Refused(refusal) => ReturnOutcome {
-            answer: Returned::Refused(refusal),
-            totals,
-        },
-        Returned::Length(length) => {
-            let read = file_reader::read_file(Caller::Bench, &buffer[..length], totals);
-            let sums = read.totals;
-            ReturnOutcome {
-                answer: Returned::Length(length),
-                totals: sums,
-            }
-        }
+        Changed::Done => return_named(store, name, buffer),
     }
 }
 

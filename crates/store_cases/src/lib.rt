@@ -3,7 +3,6 @@
 use limits::Caller;
 use lines::lists::{NODES, octets, within};
 use lines::print;
-use totals::Totals;
 
 // The names that a line may begin with, each the number that its letters make in ASCII.
 const KEEP: u64 = 0x6b656570;
@@ -21,13 +20,11 @@ fn keep(caller: Caller, store: &mut [u8], file: &[u8]) {
     print::answer(by_caller::keep(caller, store, name, file));
 }
 
-fn return_to(store: &[u8], stored: Totals, buffer: &mut [u8]) {
+fn return_to(store: &[u8], buffer: &mut [u8]) {
     let mut room = [0; NODES];
     let mut size = 7;
-    let mut totals = totals_share::sums_of(stored);
     let name = octets(&mut room);
-    print::answer(gondwize::gondwize_return(store, name, buffer, &mut size, &mut totals));
-    print::totals(&totals);
+    print::answer(gondwize::gondwize_return(store, name, buffer, &mut size));
     print::count(size);
     print::bytes(&buffer[..within(SHOWN, buffer.len())]);
 }
@@ -39,10 +36,10 @@ fn forget(store: &mut [u8]) {
 }
 
 // Calls an operation; false where it is none of these.
-fn called(name: u64, caller: Caller, stored: Totals, store: &mut [u8], bytes: &mut [u8]) -> bool {
+fn called(name: u64, caller: Caller, store: &mut [u8], bytes: &mut [u8]) -> bool {
     match name {
         KEEP => keep(caller, store, bytes),
-        RETURN => return_to(store, stored, bytes),
+        RETURN => return_to(store, bytes),
         FORGET => forget(store),
         _ => return false,
     }
@@ -51,16 +48,9 @@ fn called(name: u64, caller: Caller, stored: Totals, store: &mut [u8], bytes: &m
 
 // Calls an operation with as much of the store as is lent, and prints the names of all places; nothing where the line names none of
 // the three. The program `cases` calls it with every line but those of operations that may change the bytes by themselves.
-pub fn call(
-    name: u64,
-    caller: Caller,
-    stored: Totals,
-    lent: usize,
-    store: &mut [u8],
-    bytes: &mut [u8],
-) {
+pub fn call(name: u64, caller: Caller, lent: usize, store: &mut [u8], bytes: &mut [u8]) {
     let n = within(lent, store.len());
-    if called(name, caller, stored, &mut store[..n], bytes) {
+    if called(name, caller, &mut store[..n], bytes) {
         print::names(store);
     }
 }

@@ -29,7 +29,7 @@ fn valid_room(room: &[u8]) -> bool
     if room.len() < end {
         return false;
     }
-    match file_reader::check_file(Caller::Bench, &room[..end]) {
+    match file_reader::read_file(Caller::Bench, &room[..end]) {
         FileRead::Refused(_) => false,
         FileRead::Accepted(_) => store_bytes::all_zero(&room[end..]),
     }

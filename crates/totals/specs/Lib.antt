@@ -1,4 +1,3 @@
 pub mod Totals
 pub mod Share
 pub mod Motion
-pub mod Running

@@ -1,5 +1,5 @@
--- One particle's share of the totals, and the sum and the difference of two. Assumes nothing.
-use Rattle.std.specs.Prelude.{pos, ◌+ℤ◌, ◌-ℤ◌, ◌*ℤ◌}
+-- One particle's share of the totals, and the sum of two: named by internal contracts, and by no public operation's. Assumes nothing.
+use Rattle.std.specs.Prelude.{pos, ◌+ℤ◌, ◌*ℤ◌}
 use Rattle.spline.specs.Spline.{D}
 use Rattle.particle.specs.declared.Particle.{Particle}
 use Rattle.apic.specs.Totals.{spin_per_mass, motion_per_mass}
@@ -25,15 +25,4 @@ plus s t =
       spin = s.spin +ℤ t.spin;
       motion = s.motion +ℤ t.motion;
       marks = s.marks +ℤ t.marks;
-    }
-
-abbrev pub minus : Totals → Totals → Totals
-minus s t =
-    record {
-      mass = s.mass -ℤ t.mass;
-      px = s.px -ℤ t.px;
-      py = s.py -ℤ t.py;
-      spin = s.spin -ℤ t.spin;
-      motion = s.motion -ℤ t.motion;
-      marks = s.marks -ℤ t.marks;
     }

@@ -23,10 +23,6 @@ totals_of ps =
       marks = pos (total_marks ps);
     }
 
--- those of no particle
-abbrev pub no_totals : Totals
-no_totals = totals_of []
-
 -- mass, px, py, spin, motion, marks
 abbrev pub sums : Totals → List ℤ
 sums t = t.mass ∷ t.px ∷ t.py ∷ t.spin ∷ t.motion ∷ t.marks ∷ []

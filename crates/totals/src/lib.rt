@@ -1,7 +1,4 @@
 // The totals of a set, and the answer of Totals. What they are stands in specs/, what follows from it in proofs/.
-ghost use Rattle.std.specs.Prelude.{◌≡◌};
-ghost use Rattle.totals.specs.Totals.{no_totals};
-
 use refusal::Refusal;
 
 // How many sums there are.
@@ -22,18 +19,4 @@ pub struct Totals {
 pub enum Totalled {
     Sums(Totals),
     Refused(Refusal),
-}
-
-// The totals of no particle.
-pub fn none() -> Totals
-    ensures { result ≡ no_totals }
-{
-    Totals {
-        mass: 0,
-        px: 0,
-        py: 0,
-        spin: 0,
-        motion: 0,
-        marks: 0,
-    }
 }

@@ -5,6 +5,7 @@ use mathlib.Core.Path.{◌≡◌, refl, sym, ap, ◌∙◌, subst}
 use mathlib.Core.List.{List, [], ◌∷◌}
 use Prim.Native.Nat.{ℕ, ◌+◌, ◌≤◌, ◌<◌}
 use lib.Dec.{lit≤}
+use lib.IntN.{pos, +ℤ_idl, +ℤ_idr, +ℤ_assoc}
 use Rattle.refusal.specs.Refused.{Answer, gives, refused, refused_by, and_then}
 use Rattle.refusal.specs.declared.Refusal.{Refusal}
 use Rattle.particle.specs.declared.Particle.{Particle}
@@ -14,10 +15,8 @@ use Rattle.totals.specs.declared.Totals.{Totals}
 use Rattle.totals_set.specs.declared.Progress.{Progress}
 use Rattle.totals_set.specs.declared.Next.{Next}
 use Rattle.totals_set.specs.declared.Next.TheVariants as next
-use Rattle.totals.specs.Totals.{totals_of, no_totals}
+use Rattle.totals.specs.Totals.{totals_of}
 use Rattle.totals.specs.Share.{share, plus}
-use Rattle.totals.proofs.Sums.{plus_assoc, plus_none, none-plus}
-use Rattle.totals_share.proofs.Small.{none-small}
 use Rattle.totals_set.specs.Walk.{Small, SmallNext, advanced, told_next, next_record, walked}
 
 abbrev walking : Carried Progress Totals
@@ -29,13 +28,52 @@ walking =
       kept = λ s q. refl;
     }
 
+plus_assoc : (a b c : Totals) → plus (plus a b) c ≡ plus a (plus b c)
+plus_assoc a b c =
+    λ i.
+    record {
+      mass = +ℤ_assoc a.mass b.mass c.mass i;
+      px = +ℤ_assoc a.px b.px c.px i;
+      py = +ℤ_assoc a.py b.py c.py i;
+      spin = +ℤ_assoc a.spin b.spin c.spin i;
+      motion = +ℤ_assoc a.motion b.motion c.motion i;
+      marks = +ℤ_assoc a.marks b.marks c.marks i;
+    }
+
+abbrev pub none : Totals
+none = record { mass = pos 0; px = pos 0; py = pos 0; spin = pos 0; motion = pos 0; marks = pos 0 }
+
+plus_none : (t : Totals) → plus t none ≡ t
+plus_none t =
+    λ i.
+    record {
+      mass = +ℤ_idr t.mass i;
+      px = +ℤ_idr t.px i;
+      py = +ℤ_idr t.py i;
+      spin = +ℤ_idr t.spin i;
+      motion = +ℤ_idr t.motion i;
+      marks = +ℤ_idr t.marks i;
+    }
+
+none-plus : (t : Totals) → plus none t ≡ t
+none-plus t =
+    λ i.
+    record {
+      mass = +ℤ_idl t.mass i;
+      px = +ℤ_idl t.px i;
+      py = +ℤ_idl t.py i;
+      spin = +ℤ_idl t.spin i;
+      motion = +ℤ_idl t.motion i;
+      marks = +ℤ_idl t.marks i;
+    }
+
 sums-are : (s : Progress) (ps : List Particle) → (folded walking s ps).totals ≡ plus s.totals (totals_of ps)
 unfolding folded
 sums-are s [] = sym (plus_none s.totals)
 sums-are s (p ∷ ps) = sums-are (advanced s p) ps ∙ plus_assoc s.totals (share p) (totals_of ps)
 
 abbrev start-of-walk : Progress
-start-of-walk = record { entry = record { least = 0; mass = 0 }; totals = no_totals }
+start-of-walk = record { entry = record { least = 0; mass = 0 }; totals = none }
 
 pub record Walking (nx ny start : ℕ) (bytes : List ℕ) (count : ℕ) (s : Progress) (k : ℕ) : Type 0 where
   pub small : Small k s
@@ -57,7 +95,7 @@ module _ {nx ny start : ℕ} {bytes : List ℕ} {count : ℕ} where
         small =
             record {
               light = lit≤ tt;
-              sums = none-small;
+              sums = record { mass = lit≤ tt; px = lit≤ tt; py = lit≤ tt; spin = lit≤ tt; motion = lit≤ tt; marks = lit≤ tt };
             };
         left = left-start walking nx ny start bytes count (walked nx ny start bytes count) start-of-walk (walks-all nx ny start bytes count);
       }

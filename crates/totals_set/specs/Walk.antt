@@ -1,6 +1,6 @@
 -- What the internal functions of the walk compute: their contracts name these, and no public operation's does.
 -- Assumes nothing.
-use Rattle.std.specs.Prelude.{List, ℕ, ◌≤◌}
+use Rattle.std.specs.Prelude.{List, ℕ, ◌*◌, ◌^◌, ◌≤◌, nat_abs}
 use Rattle.limits.specs.Limits.{most_total_mass}
 use Rattle.refusal.specs.Refused.{Answer, gives, refused_by, and_then}
 use Rattle.particle.specs.declared.Particle.{Particle}
@@ -13,7 +13,19 @@ use Rattle.totals_set.specs.declared.Next.{Next}
 use Rattle.totals_set.specs.declared.Next.TheVariants as next
 use Rattle.totals.specs.Totals.{totals_of}
 use Rattle.totals.specs.Share.{share, plus}
-use Rattle.totals_share.specs.Small.{SmallSums}
+
+-- what one record's share of a sum is at most, in size
+abbrev pub most_share : ℕ
+most_share = 2 ^ 35
+
+-- no sum is above n times a record's
+pub record SmallSums (n : ℕ) (t : Totals) : Type 0 where
+  pub mass : nat_abs t.mass ≤ n * most_share
+  pub px : nat_abs t.px ≤ n * most_share
+  pub py : nat_abs t.py ≤ n * most_share
+  pub spin : nat_abs t.spin ≤ n * most_share
+  pub motion : nat_abs t.motion ≤ n * most_share
+  pub marks : nat_abs t.marks ≤ n * most_share
 
 -- the progress of a walk that has passed n records
 pub record Small (n : ℕ) (s : Progress) : Type 0 where

@@ -60,15 +60,21 @@ fn next_record(
     }
 }
 
-// The totals of `count` records from byte `start` on, each checked. `set_totals` calls it, and so does whoever has records behind a
-// header.
-pub fn walk(nx: usize, ny: usize, bytes: &[u8], start: usize, count: usize) -> Totalled
+// The totals of `count` records from byte `start` on, each checked. `set_totals` calls it.
+fn walk(nx: usize, ny: usize, bytes: &[u8], start: usize, count: usize) -> Totalled
     requires { SizeLimits nx ny × (count ≤ most_records) × (start + record_length * count ≤ length bytes.now) }
     ensures { told_totalled result ≡ walked nx ny start bytes.now count }
 {
     let mut progress = Progress {
         entry: Entry { least: 0, mass: 0 },
-        totals: totals::none(),
+        totals: Totals {
+            mass: 0,
+            px: 0,
+            py: 0,
+            spin: 0,
+            motion: 0,
+            marks: 0,
+        },
     };
     let mut k = 0;
     while k < count {

@@ -1,4 +1,1 @@
 pub mod Shares
-pub mod Pairs
-pub mod Small
-pub mod Summing

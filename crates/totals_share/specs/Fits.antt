@@ -1,5 +1,5 @@
--- That each intermediate value of a share, and each sum or difference of two totals, is a machine number. Assumes nothing.
-use Rattle.std.specs.Int.{Width, w64}
+-- That each intermediate value of a share, and each sum of two totals, is a machine number. Assumes nothing.
+use Rattle.std.specs.Int.{w64}
 use Rattle.std.proofs.Common.{SFits}
 use Rattle.std.specs.Prelude.{ℤ, ◌+ℤ◌, ◌-ℤ◌, ◌*ℤ◌}
 use Rattle.totals.specs.declared.Totals.{Totals}
@@ -21,31 +21,23 @@ pub record StraightFits (d vx vy : ℤ) : Type 0 where
   pub sum : SFits w64 (vx *ℤ vx +ℤ vy *ℤ vy)
   pub product : SFits w64 (d *ℤ (vx *ℤ vx +ℤ vy *ℤ vy))
 
--- in numbers of this width
-pub record TurningFits (w : Width) (bxx bxy byx byy : ℤ) : Type 0 where
-  pub first : SFits w (bxx *ℤ bxx)
-  pub second : SFits w (bxy *ℤ bxy)
-  pub two : SFits w (bxx *ℤ bxx +ℤ bxy *ℤ bxy)
-  pub third : SFits w (byx *ℤ byx)
-  pub three : SFits w (bxx *ℤ bxx +ℤ bxy *ℤ bxy +ℤ byx *ℤ byx)
-  pub fourth : SFits w (byy *ℤ byy)
-  pub sum : SFits w (bxx *ℤ bxx +ℤ bxy *ℤ bxy +ℤ byx *ℤ byx +ℤ byy *ℤ byy)
+pub record TurningFits (bxx bxy byx byy : ℤ) : Type 0 where
+  pub first : SFits w64 (bxx *ℤ bxx)
+  pub second : SFits w64 (bxy *ℤ bxy)
+  pub two : SFits w64 (bxx *ℤ bxx +ℤ bxy *ℤ bxy)
+  pub third : SFits w64 (byx *ℤ byx)
+  pub three : SFits w64 (bxx *ℤ bxx +ℤ bxy *ℤ bxy +ℤ byx *ℤ byx)
+  pub fourth : SFits w64 (byy *ℤ byy)
+  pub sum : SFits w64 (bxx *ℤ bxx +ℤ bxy *ℤ bxy +ℤ byx *ℤ byx +ℤ byy *ℤ byy)
 
 pub record MotionFits (m straight turning : ℤ) : Type 0 where
   pub sum : SFits w64 (straight +ℤ turning)
   pub product : SFits w64 (m *ℤ (straight +ℤ turning))
 
--- an operation on two totals, sum by sum
-pub record EachFits (op : ℤ → ℤ → ℤ) (s t : Totals) : Type 0 where
-  pub mass : SFits w64 (op s.mass t.mass)
-  pub px : SFits w64 (op s.px t.px)
-  pub py : SFits w64 (op s.py t.py)
-  pub spin : SFits w64 (op s.spin t.spin)
-  pub motion : SFits w64 (op s.motion t.motion)
-  pub marks : SFits w64 (op s.marks t.marks)
-
-abbrev pub SumFits : Totals → Totals → Type 0
-SumFits = EachFits ◌+ℤ◌
-
-abbrev pub DifferenceFits : Totals → Totals → Type 0
-DifferenceFits = EachFits ◌-ℤ◌
+pub record SumFits (s t : Totals) : Type 0 where
+  pub mass : SFits w64 (s.mass +ℤ t.mass)
+  pub px : SFits w64 (s.px +ℤ t.px)
+  pub py : SFits w64 (s.py +ℤ t.py)
+  pub spin : SFits w64 (s.spin +ℤ t.spin)
+  pub motion : SFits w64 (s.motion +ℤ t.motion)
+  pub marks : SFits w64 (s.marks +ℤ t.marks)

@@ -1,16 +1,14 @@
-// One particle's share of the totals, two totals added or taken from each other, and totals as an array.
+// One particle's share of the totals, two totals added, and totals as an array.
 ghost use Rattle.std.specs.Prelude.{◌≡◌, ◌+ℤ◌, ◌-ℤ◌, ◌*ℤ◌};
-ghost use Rattle.std.specs.Int.{w64};
 ghost use Rattle.totals.specs.Totals.{sums};
-ghost use Rattle.totals.specs.Share.{share, plus, minus};
-ghost use Rattle.totals.specs.Running.{of_sums};
-ghost use Rattle.totals_share.specs.Fits.{LinearFits, AngularFits, StraightFits, TurningFits, MotionFits, SumFits, DifferenceFits};
+ghost use Rattle.totals.specs.Share.{share, plus};
+ghost use Rattle.totals_share.specs.Fits.{LinearFits, AngularFits, StraightFits, TurningFits, MotionFits, SumFits};
 
 use particle::Particle;
 use totals::{SUMS, Totals};
 
-// One particle's share of momentum on an axis. `share_of` calls it, and crate step_change with a change of velocity.
-pub fn linear_share(m: i64, v: i64) -> i64
+// One particle's share of momentum on an axis. `share_of` calls it.
+fn linear_share(m: i64, v: i64) -> i64
     requires { LinearFits m v }
     ensures { result ≡ m *ℤ v }
 {
@@ -35,14 +33,14 @@ fn straight_part(d: i64, vx: i64, vy: i64) -> i64
 
 // The turning part of a particle's motion for each unit of its mass. `share_of` calls it.
 fn turning_part(bxx: i64, bxy: i64, byx: i64, byy: i64) -> i64
-    requires { TurningFits w64 bxx bxy byx byy }
+    requires { TurningFits bxx bxy byx byy }
     ensures { result ≡ bxx *ℤ bxx +ℤ bxy *ℤ bxy +ℤ byx *ℤ byx +ℤ byy *ℤ byy }
 {
     bxx * bxx + bxy * bxy + byx * byx + byy * byy
 }
 
-// One particle's share of motion. `share_of` calls it, and crate step_change with changes of both parts.
-pub fn motion_share(m: i64, straight: i64, turning: i64) -> i64
+// One particle's share of motion. `share_of` calls it.
+fn motion_share(m: i64, straight: i64, turning: i64) -> i64
     requires { MotionFits m straight turning }
     ensures { result ≡ m *ℤ (straight +ℤ turning) }
 {
@@ -76,8 +74,7 @@ pub fn share_of(p: Particle) -> Totals
     }
 }
 
-// The sum of two totals. Whoever sums a set calls it with totals of a set's part and of one particle, and whoever brings running
-// totals up to date with those and a change.
+// The sum of two totals. `next_particle` of crate `totals_set` calls it with totals of a set's part and of one particle.
 pub fn plus_of(s: Totals, t: Totals) -> Totals
     requires { SumFits s t }
     ensures { result ≡ plus s t }
@@ -92,38 +89,9 @@ pub fn plus_of(s: Totals, t: Totals) -> Totals
     }
 }
 
-// What is left of totals without others. Whoever brings running totals up to date calls it with the totals of two sets.
-pub fn minus_of(s: Totals, t: Totals) -> Totals
-    requires { DifferenceFits s t }
-    ensures { result ≡ minus s t }
-{
-    Totals {
-        mass: s.mass - t.mass,
-        px: s.px - t.px,
-        py: s.py - t.py,
-        spin: s.spin - t.spin,
-        motion: s.motion - t.motion,
-        marks: s.marks - t.marks,
-    }
-}
-
 // The sums, in the order of the report's line.
 pub fn sums_of(t: Totals) -> [i64; SUMS]
     ensures { result ≡ sums t }
 {
     [t.mass, t.px, t.py, t.spin, t.motion, t.marks]
-}
-
-// Totals from their sums.
-pub fn of_sums(sums: [i64; SUMS]) -> Totals
-    ensures { result ≡ of_sums sums }
-{
-    Totals {
-        mass: sums[0],
-        px: sums[1],
-        py: sums[2],
-        spin: sums[3],
-        motion: sums[4],
-        marks: sums[5],
-    }
 }

@@ -3,12 +3,10 @@
 --     refused-moves, pack-ready, done-moves
 --                                   what is left after its answer
 --     bad-entry, by-velocities      the checks before any particle moves, by their parts
---     entry-stopped, entry-then     and 25 after them
 --     stopped, set-accepted, gather-set, moved_on
 --                                       the operation, by those checks
 -- Assumes nothing.
 use mathlib.Core.Path.{◌≡◌, refl, sym, ap, ◌∙◌, subst}
-use mathlib.Core.Bool.{Bool, true, false, not}
 use mathlib.Core.List.{List, map}
 use Prim.Native.Nat.{ℕ, ◌*◌, ◌/◌}
 use native.Mathlib.Omega.{arith}
@@ -16,7 +14,7 @@ use lib.Dec.{eqb}
 use lib.ListN.{length, length-map}
 use lib.IntN.{ℤ}
 use borrow.Author.Tests.{eqb-true}
-use Rattle.refusal.specs.Refused.{Answer, gives, refused, refuse_if, and_then, done, told_of}
+use Rattle.refusal.specs.Refused.{Answer, gives, refused, and_then, done, told_of}
 use Rattle.refusal.proofs.Answers.{went_on, refused-leaves, done-leaves}
 use Rattle.arith.specs.Rounding.{rounded}
 use Rattle.limits.specs.declared.Caller.{Caller}
@@ -30,10 +28,6 @@ use Rattle.apic.specs.Step.{node}
 use Rattle.apic.specs.Limits.{SetLimits}
 use Rattle.apic.proofs.Gather.{gather-labels}
 use Rattle.particles.specs.Set.{record_count, set_answer, particles_in}
-use Rattle.totals.specs.declared.Totals.{Totals}
-use Rattle.totals.specs.Running.{valid_totals, checked_totals, then_totals}
-use Rattle.totals.proofs.Sums.{unchanged}
-use Rattle.totals.proofs.Stored.{then-kept, then-passed}
 use Rattle.unpacked.specs.Unpacked.{per_particle}
 use Rattle.unpacked.proofs.Laws.{length-unpacked}
 use Rattle.packing.specs.Packing.{Packable, Packs}
@@ -44,18 +38,16 @@ use Rattle.gathering.proofs.Checks.{follow, checks-follow}
 use Rattle.gathering.proofs.Kept.{set-kept}
 use Rattle.settings.specs.Settings.{still}
 use Rattle.entry.specs.declared.Buffers.TheVariants.{Two}
-use Rattle.entry.specs.declared.Begun.{Begun}
-use Rattle.entry.specs.Entry.{told_begun, entry_answer}
-use Rattle.transfer.specs.declared.GatherOutcome.{GatherOutcome}
-use Rattle.transfer.specs.Transfer.{told_moved, velocity_checks, checked_set, gather_entry, move_answer, gather_answer, Moves, GatherIs}
-use Rattle.transfer.specs.Internal.{GatherSet, Gathers, MoveReady, MovedFrom}
-use Rattle.entry.proofs.Entry.{and-true, accepted, kept-refusal}
+use Rattle.entry.specs.Entry.{entry_answer}
+use Rattle.transfer.specs.Transfer.{velocity_checks, checked_set, move_answer, gather_answer, Moves}
+use Rattle.transfer.specs.Internal.{GatherSet, MoveReady, MovedFrom}
+use Rattle.entry.proofs.Entry.{and-true, accepted}
 use Rattle.transfer.proofs.Sets.{accepted-set}
 use Rattle.transfer.proofs.Velocities.{node-velocities}
 
 -- ---- the accepted set, by its parts
 
-pub move-ready : {nx ny : ℕ} {records : List ℕ} {ux uy : List ℤ} {totals : Totals} → GatherSet nx ny records ux uy totals → MoveReady nx ny records ux uy
+pub move-ready : {nx ny : ℕ} {records : List ℕ} {ux uy : List ℤ} → GatherSet nx ny records ux uy → MoveReady nx ny records ux uy
 move-ready {nx} {ny} {records} s =
     record { limits = accepted-set nx ny records s.set; x-velocities = s.x-velocities; y-velocities = s.y-velocities }
 
@@ -132,64 +124,34 @@ module _ (caller : Caller) (nx ny : ℕ) (records : List ℕ) (ux uy : List ℤ)
 
   -- ---- the operation, by those checks
 
-  module _ (totals : Totals) where
-    -- with 25, by its own check
-    module _ (b : Begun) (t : told_begun b ≡ told_of (checked_set caller nx ny records ux uy)) where
-      pub entry-stopped : {n k : ℕ} → told_begun b ≡ refused n k → told_of (gather_entry caller nx ny records ux uy totals) ≡ refused n k
-      unfolding gather_entry
-      entry-stopped h = ap told_of (then-kept totals (kept-refusal _ (λ _. tt) (sym t ∙ h)))
+  pub stopped : {n k : ℕ} → checked_set caller nx ny records ux uy ≡ refused n k → Moves (gather_answer caller nx ny records ux uy) records (refused n k) records
+  stopped e = refused-leaves (ap (λ a. and_then a (λ ps. move_answer nx ny ux uy ps)) e)
 
-      pub entry-then : told_begun b ≡ done → told_of (gather_entry caller nx ny records ux uy totals) ≡ checked_totals totals done
-      unfolding gather_entry then_totals checked_totals
-      entry-then h =
-          let w = went_on (checked_set caller nx ny records ux uy) _ (sym t ∙ h) in
-          ap (λ a. told_of (and_then a (λ ps. refuse_if (not (valid_totals totals)) 25 0 (gives ps)))) w.1
-          ∙ plain (valid_totals totals) w.0
-        where
-          plain : (v : Bool) (ps : List Particle) → told_of (refuse_if (not v) 25 0 (gives ps)) ≡ refuse_if (not v) 25 0 done
-          plain true ps = refl
-          plain false ps = refl
+  module _ {ps : List Particle} (e : checked_set caller nx ny records ux uy ≡ gives ps) where
+    pub set-accepted : set_answer Bench nx ny records ≡ gives ps
+    unfolding checked_set
+    set-accepted =
+        let a = went_on entry _ e in
+        (accepted caller _ _ 0 records a.1).set ∙ (went_on (velocity_checks (nx * ny) ux uy) _ a.2).2
 
-    pub stopped : {n k : ℕ} → gather_entry caller nx ny records ux uy totals ≡ refused n k → GatherIs caller nx ny records ux uy totals (refused n k) records totals
-    stopped e =
+    pub gather-set : GatherSet nx ny records ux uy
+    unfolding checked_set
+    gather-set =
+        let a = went_on entry _ e in
+        let b = went_on (velocity_checks (nx * ny) ux uy) _ a.2 in
+        let l = lengths-of a.1 in
+        let v = node-velocities nx ny ux uy l.0 l.1 b.1 in
         record {
-          moves = refused-leaves (ap (λ a. and_then a (λ ps. move_answer nx ny ux uy ps)) e);
-          totals-are = sym (unchanged totals records);
+          particles = ps;
+          set = set-accepted;
+          most = set-length nx ny records set-accepted;
+          x-velocities = v.0;
+          y-velocities = v.1;
         }
 
-    module _ {ps : List Particle} (whole : gather_entry caller nx ny records ux uy totals ≡ gives ps) where
-      passed : (checked_set caller nx ny records ux uy ≡ gives ps) × (valid_totals totals ≡ true)
-      unfolding gather_entry
-      passed = then-passed totals (checked_set caller nx ny records ux uy) whole
-
-      pub set-accepted : set_answer Bench nx ny records ≡ gives ps
-      unfolding checked_set
-      set-accepted =
-          let a = went_on entry _ passed.0 in
-          (accepted caller _ _ 0 records a.1).set ∙ (went_on (velocity_checks (nx * ny) ux uy) _ a.2).2
-
-      pub gather-set : GatherSet nx ny records ux uy totals
-      unfolding checked_set
-      gather-set =
-          let a = went_on entry _ passed.0 in
-          let b = went_on (velocity_checks (nx * ny) ux uy) _ a.2 in
-          let l = lengths-of a.1 in
-          let v = node-velocities nx ny ux uy l.0 l.1 b.1 in
-          record {
-            particles = ps;
-            set = set-accepted;
-            most = set-length nx ny records set-accepted;
-            stored = passed.1;
-            x-velocities = v.0;
-            y-velocities = v.1;
-          }
-
-      pub moved_on : {r : GatherOutcome} {records' : List ℕ} → Gathers nx ny records ux uy totals r records' → GatherIs caller nx ny records ux uy totals (told_moved r.answer) records' r.totals
-      moved_on {r} {records'} m =
-          record {
-            moves =
-                subst (λ b. Moves b records (told_moved r.answer) records')
-                (ap (move_answer nx ny ux uy) (particles_in-accepted nx ny records set-accepted) ∙ sym (ap (λ b. and_then b (λ qs. move_answer nx ny ux uy qs)) whole))
-                m.moves;
-            totals-are = m.totals-are;
-          }
+    pub moved_on : {t : Answer Unit} {records' : List ℕ} → Moves (move_answer nx ny ux uy (particles_in records)) records t records' → Moves (gather_answer caller nx ny records ux uy) records t records'
+    unfolding gather-set
+    moved_on {t} {records'} m =
+        subst (λ b. Moves b records t records')
+        (ap (move_answer nx ny ux uy) (particles_in-accepted nx ny records gather-set.set) ∙ sym (ap (λ b. and_then b (λ qs. move_answer nx ny ux uy qs)) e))
+        m

@@ -1,6 +1,6 @@
 -- What the internal functions ask and leave: their contracts name these, and no public one does.
 -- Assumes nothing.
-use Rattle.std.specs.Prelude.{◌≡◌, true, List, map, ℕ, ◌*◌, ◌≤◌, length, ℤ}
+use Rattle.std.specs.Prelude.{◌≡◌, List, map, ℕ, ◌*◌, ◌≤◌, length, ℤ}
 use Rattle.refusal.specs.Refused.{gives}
 use Rattle.limits.specs.Limits.{most_records}
 use Rattle.limits.specs.declared.Caller.TheVariants.{Bench}
@@ -12,11 +12,7 @@ use Rattle.particles.specs.Set.{set_length, set_answer, record_count, particles_
 use Rattle.unpacked.specs.Unpacked.{per_particle, unpacked}
 use Rattle.scatter_block.specs.Lines.{Held}
 use Rattle.scatter_core.specs.Scatter.{Room}
-use Rattle.totals.specs.declared.Totals.{Totals}
-use Rattle.totals.specs.Running.{valid_totals, changed}
 use Rattle.gathering.specs.declared.Gathered.{Gathered}
-use Rattle.transfer.specs.declared.GatherOutcome.{GatherOutcome}
-use Rattle.transfer.specs.Transfer.{told_moved, move_answer, Moves}
 use Rattle.gathering.specs.Gather.{gathered, answer_from, told_gathered, NodeVelocities}
 
 -- a set is worked on in parts of so many records
@@ -54,19 +50,13 @@ pub record PartReady (nx ny : ℕ) (records : List ℕ) (table : List (List ℕ)
 
 -- ---- gather
 
--- a set that is accepted on this grid, node velocities within their limits, and running totals that have passed their check
-pub record GatherSet (nx ny : ℕ) (records : List ℕ) (ux uy : List ℤ) (totals : Totals) : Type 0 where
+-- a set that is accepted on this grid, and node velocities within their limits
+pub record GatherSet (nx ny : ℕ) (records : List ℕ) (ux uy : List ℤ) : Type 0 where
   pub particles : List Particle
   pub set : set_answer Bench nx ny records ≡ gives particles
   pub most : length records ≤ set_length
-  pub stored : valid_totals totals ≡ true
   pub x-velocities : NodeVelocities nx ny ux
   pub y-velocities : NodeVelocities nx ny uy
-
--- what a gather of such a set answers and leaves
-pub record Gathers (nx ny : ℕ) (records : List ℕ) (ux uy : List ℤ) (totals : Totals) (r : GatherOutcome) (records' : List ℕ) : Type 0 where
-  pub moves : Moves (move_answer nx ny ux uy (particles_in records)) records (told_moved r.answer) records'
-  pub totals-are : r.totals ≡ changed totals records records'
 
 -- records that hold a set within its limits, and node velocities within theirs
 pub record MoveReady (nx ny : ℕ) (records : List ℕ) (ux uy : List ℤ) : Type 0 where

@@ -1,6 +1,6 @@
 -- Document 01, operations "Scatter" and "Gather": what each answers to a caller for any numbers and any buffers, and what the buffers
 -- hold afterwards. The sums are those of "The step", scatter and gather. Assumes nothing.
-use Rattle.std.specs.Prelude.{◌≡◌, not, List, map, ℕ, ◌*◌, length, get_or, ℤ, pos, nat_abs}
+use Rattle.std.specs.Prelude.{not, List, map, ℕ, ◌*◌, length, get_or, ℤ, pos, nat_abs}
 use Rattle.refusal.specs.Refused.{Answer, gives, refused_by, refuse_if, and_then, done, for_each, Leaves}
 use Rattle.limits.specs.Limits.{most_node_velocity}
 use Rattle.limits.specs.declared.Caller.{Caller}
@@ -13,8 +13,6 @@ use Rattle.settings.specs.Settings.{still}
 use Rattle.entry.specs.declared.Buffers.TheVariants.{Two, Three}
 use Rattle.entry.specs.Entry.{entry_answer}
 use Rattle.gathering.specs.Gather.{gathered, move_checks}
-use Rattle.totals.specs.declared.Totals.{Totals}
-use Rattle.totals.specs.Running.{then_totals, changed}
 use Rattle.transfer.specs.declared.Scattered.{Scattered}
 use Rattle.transfer.specs.declared.Scattered.TheVariants as scattered
 use Rattle.transfer.specs.declared.Moved.{Moved}
@@ -63,22 +61,16 @@ checked_set caller nx ny records ux uy =
     and_then (entry_answer caller (still nx ny) (Two (length ux) (length uy)) 0 records)
     (λ ps. and_then (velocity_checks (nx * ny) ux uy) (λ _. gives ps))
 
--- 25 a stored total
-unfoldable pub gather_entry : Caller → ℕ → ℕ → List ℕ → List ℤ → List ℤ → Totals → Answer (List Particle)
-gather_entry caller nx ny records ux uy totals = then_totals totals (checked_set caller nx ny records ux uy)
-
 -- then for each record 13, 14, 15; the result is the moved particles
 abbrev pub move_answer : ℕ → ℕ → List ℤ → List ℤ → List Particle → Answer (List Particle)
 move_answer nx ny ux uy ps = move_checks nx ny (gathered axis_weight nx ny ux uy) 0 ps (gives (map (gathered axis_weight nx ny ux uy) ps))
 
-abbrev pub gather_answer : Caller → ℕ → ℕ → List ℕ → List ℤ → List ℤ → Totals → Answer (List Particle)
-gather_answer caller nx ny records ux uy totals = and_then (gather_entry caller nx ny records ux uy totals) (λ ps. move_answer nx ny ux uy ps)
+abbrev pub gather_answer : Caller → ℕ → ℕ → List ℕ → List ℤ → List ℤ → Answer (List Particle)
+gather_answer caller nx ny records ux uy = and_then (checked_set caller nx ny records ux uy) (λ ps. move_answer nx ny ux uy ps)
 
 -- what is told of an answer, and the records that are left: those of its particles, or what they were
 abbrev pub Moves : Answer (List Particle) → List ℕ → Answer Unit → List ℕ → Type 0
 Moves a records told records' = Leaves a records_of records told records'
 
--- and the running totals have changed as the records have, so a refused call leaves them as they were
-pub record GatherIs (caller : Caller) (nx ny : ℕ) (records : List ℕ) (ux uy : List ℤ) (totals : Totals) (told : Answer Unit) (records' : List ℕ) (totals' : Totals) : Type 0 where
-  pub moves : Moves (gather_answer caller nx ny records ux uy totals) records told records'
-  pub totals-are : totals' ≡ changed totals records records'
+abbrev pub GatherIs : Caller → ℕ → ℕ → List ℕ → List ℤ → List ℤ → Answer Unit → List ℕ → Type 0
+GatherIs caller nx ny records ux uy told records' = Moves (gather_answer caller nx ny records ux uy) records told records'

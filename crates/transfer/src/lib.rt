@@ -1,7 +1,6 @@
 // The answers of scatter and gather. What they do stands in specs/, what follows from it in proofs/.
 use particle::RECORD_LENGTH;
 use refusal::Refusal;
-use totals::Totals;
 use unpacked::NUMBERS;
 
 // A set is worked on in parts of so many records, which have so many bytes and numbers.
@@ -23,11 +22,4 @@ pub enum Scattered {
 pub enum Moved {
     Done,
     Refused(Refusal),
-}
-
-// And the running totals after it.
-#[derive(Drop)]
-pub struct GatherOutcome {
-    pub answer: Moved,
-    pub totals: Totals,
 }

@@ -24,7 +24,7 @@ pub fn natural_at(array: &[i16], at: usize) -> u16
     array[at] as u16
 }
 
-// The particle with index k, with this identifier and these marks. Crates packing and step_change call it.
+// The particle with index k, with this identifier and these marks. Crate packing calls it.
 pub fn particle_at(array: &[i16], k: usize, identifier: u16, marks: u8) -> Particle
     requires { ReadableAt array.now k }
     ensures { ReadsAt array.now k identifier marks result }

@@ -49,7 +49,7 @@ fn put_particle(p: Particle, k: usize, array: &mut [i16])
     store(&nine, &mut array[at..at + NUMBERS]);
 }
 
-// The particle in the record with index k. Crates packing and record_sums call it.
+// The particle in the record with index k. Crate packing calls it.
 pub fn particle_in(records: &[u8], k: usize) -> Particle
     requires { record_length * k + record_length ≤ length records.now }
     ensures { result ≡ particle_in records.now k }

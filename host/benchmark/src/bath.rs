@@ -2,7 +2,7 @@
 
 use std::fmt;
 
-use engine::{Edge, GridBuffers, Header, Particle, Settings, Size, Totals};
+use engine::{Edge, GridBuffers, Header, Particle, Settings, Size};
 use engine::{HEADER_LENGTH, RECORD_LENGTH};
 use reference::generator::Generator;
 
@@ -89,7 +89,6 @@ impl Bath {
             self.steps,
             &mut self.records.clone(),
             &mut grid,
-            &mut Totals::default(),
         );
         answer.refusal.is_none()
     }

@@ -110,8 +110,6 @@ extern "C" fn missing() {
 
 /// Another build of the static library, beside the one that this program is linked with: made a shared
 /// one by gcc in `room`, and loaded. A call of a function that an older build lacks ends the process.
-/// One that takes no running totals leaves them: on x86-64 a function does not look at a last argument
-/// that it does not take, and its caller takes it off the stack.
 ///
 /// # Errors
 ///
@@ -119,8 +117,7 @@ extern "C" fn missing() {
 ///
 /// # Safety
 ///
-/// The file is a static library whose functions keep what `include/gondwize.h` says, but for running
-/// totals.
+/// The file is a static library whose functions keep what `include/gondwize.h` says.
 pub unsafe fn load(archive: &Path, room: &Path, name: &str) -> Result<Library, String> {
     let shared = room.join(format!("{name}.so"));
     let mut gcc = Command::new("gcc");

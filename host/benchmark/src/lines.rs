@@ -26,8 +26,6 @@ pub enum Line {
     /// A run with an edge, open or sticky, and a drag.
     Run(Edge, usize),
     Step,
-    /// A step and a sum over the records it leaves.
-    StepThenTotals,
     Scatter,
     AddingScatter,
     Update,
@@ -49,13 +47,12 @@ impl Line {
     pub const RUN: Line = Line::Run(Edge::Open, 0);
 
     /// All of them.
-    pub const ALL: [Line; 23] = [
+    pub const ALL: [Line; 22] = [
         Line::RUN,
         Line::Run(Edge::Sticky(2), 0),
         Line::Run(Edge::Open, 9),
         Line::Run(Edge::Sticky(2), 9),
         Line::Step,
-        Line::StepThenTotals,
         Line::Scatter,
         Line::AddingScatter,
         Line::Update,
@@ -83,7 +80,6 @@ impl Line {
             Line::Run(Edge::Open, _) => "a run's step, drag",
             Line::Run(..) => "a run's step, sticky edge and drag",
             Line::Step => "step",
-            Line::StepThenTotals => "step, then totals",
             Line::Scatter => "scatter",
             Line::AddingScatter => "adding scatter",
             Line::Update => "update",
@@ -121,21 +117,9 @@ impl Line {
     }
 }
 
-/// What each of two libraries does: the same, or not.
-pub type Pair = [Line; 2];
-
-/// What the table calls a pair.
-pub fn name([first, second]: Pair) -> String {
-    if first == second {
-        first.name().to_owned()
-    } else {
-        format!("{} against {}", first.name(), second.name())
-    }
-}
-
-/// A pair of lines on a bath, with every buffer that they need.
+/// A line on a bath, with every buffer that it needs.
 pub struct Timed {
-    lines: Pair,
+    line: Line,
     bath: Bath,
     file: Vec<u8>,
     particles: Vec<Particle>,
@@ -148,8 +132,6 @@ pub struct Timed {
     before: Vec<u8>,
     store: Vec<u8>,
     buffer: Vec<u8>,
-    sums: [i64; 6],
-    totals: [i64; 6],
 }
 
 /// A store that holds so much of a bath file; none where the line takes none.
@@ -164,8 +146,8 @@ fn store(stored: Option<Stored>, file: &[u8]) -> Vec<u8> {
 }
 
 impl Timed {
-    /// The buffers hold what a scatter and an update leave, and the running totals are true.
-    pub fn new(lines: Pair, bath: &Bath) -> Self {
+    /// The buffers hold what a scatter and an update leave.
+    pub fn new(line: Line, bath: &Bath) -> Self {
         let zero = || vec![0; bath.nodes()];
         let (mut mass, mut x, mut y) = (vec![0; bath.nodes()], zero(), zero());
         let mut grid = GridBuffers {
@@ -181,14 +163,9 @@ impl Timed {
         assert_eq!(PROVED.update(bath.settings, &mut grid), 0);
         let records = bath.records.chunks_exact(RECORD_LENGTH);
         let file = bath.file();
-        let before = store(lines[0].stored(), &file);
-        let mut sums = [0; 6];
-        assert_eq!(
-            PROVED.totals(bath.settings.size, &bath.records, &mut sums),
-            0
-        );
+        let before = store(line.stored(), &file);
         Timed {
-            lines,
+            line,
             bath: bath.clone(),
             file,
             particles: records
@@ -203,14 +180,12 @@ impl Timed {
             store: before.clone(),
             before,
             buffer: vec![0; MOST_FILE_LENGTH],
-            sums,
-            totals: sums,
         }
     }
 
     /// How many steps or records one call stands for.
     pub fn parts(&self) -> usize {
-        match self.lines[0] {
+        match self.line {
             Line::Run(..) => self.bath.steps,
             Line::ReadRecords | Line::WriteRecords | Line::Weights | Line::WriteHeaders => {
                 self.particles.len()
@@ -221,26 +196,24 @@ impl Timed {
 }
 
 impl Subject for Timed {
-    fn prepare(&mut self, which: usize) {
-        if self.lines[which] == Line::AddingScatter {
+    fn prepare(&mut self) {
+        if self.line == Line::AddingScatter {
             self.mass.copy_from_slice(&self.scattered);
         }
-        match self.lines[which] {
+        match self.line {
             Line::AddingScatter | Line::Update => {
                 self.grid[0].copy_from_slice(&self.momentum[0]);
                 self.grid[1].copy_from_slice(&self.momentum[1]);
             }
-            Line::Gather | Line::Step | Line::StepThenTotals | Line::Run(..) => {
-                self.records.copy_from_slice(&self.bath.records);
-                self.totals = self.sums;
+            Line::Gather | Line::Step | Line::Run(..) => {
+                self.records.copy_from_slice(&self.bath.records)
             }
             Line::Keep(_) | Line::Forget(_) => self.store.copy_from_slice(&self.before),
             _ => {}
         }
     }
 
-    fn call(&mut self, which: usize, library: &Library) {
-        let line = self.lines[which];
+    fn call(&mut self, library: &Library) {
         let Bath {
             settings,
             ref records,
@@ -252,8 +225,7 @@ impl Subject for Timed {
             x,
             y,
         };
-        let totals = &mut self.totals;
-        let answer = match line {
+        let answer = match self.line {
             Line::Run(edge, drag) => {
                 let mut completed = 0;
                 let answer = library.run(
@@ -266,26 +238,21 @@ impl Subject for Timed {
                     &mut self.records,
                     &mut grid,
                     &mut completed,
-                    totals,
                 );
                 assert_eq!(completed as usize, steps);
                 answer
             }
-            Line::Step => library.step(settings, &mut self.records, &mut grid, totals),
-            Line::StepThenTotals => {
-                let step = library.step(settings, &mut self.records, &mut grid, totals);
-                step | library.totals(settings.size, &self.records, &mut [0; 6])
-            }
+            Line::Step => library.step(settings, &mut self.records, &mut grid),
             Line::Scatter => library.scatter(settings.size, records, &mut grid),
             Line::AddingScatter => library.adding_scatter(settings.size, records, &mut grid),
             Line::Update => library.update(settings, &mut grid),
             Line::Gather => {
                 let [x, y] = &self.velocity;
-                library.gather(settings.size, &mut self.records, x, y, totals)
+                library.gather(settings.size, &mut self.records, x, y)
             }
             Line::CheckSet => library.check_set(settings.size, records, &mut 0),
             Line::Totals => library.totals(settings.size, records, &mut [0; 6]),
-            Line::ReadFile => library.read_file(&self.file, &mut [0; 9], totals),
+            Line::ReadFile => library.read_file(&self.file, &mut [0; 9]),
             Line::ReadRecords => {
                 let mut values = [0; 11];
                 let records = records.chunks_exact(RECORD_LENGTH);
@@ -321,11 +288,9 @@ impl Subject for Timed {
                 })
             }
             Line::Keep(_) => library.keep(&mut self.store, NAMES[3], &self.file),
-            Line::Return(_) => {
-                library.return_to(&self.store, NAMES[3], &mut self.buffer, &mut 0, totals)
-            }
+            Line::Return(_) => library.return_to(&self.store, NAMES[3], &mut self.buffer, &mut 0),
             Line::Forget(_) => library.forget(&mut self.store, NAMES[3]),
         };
-        assert_eq!(answer, line.answer(), "{}", line.name());
+        assert_eq!(answer, self.line.answer(), "{}", self.line.name());
     }
 }

@@ -4,7 +4,7 @@
 //! or, with -NAME, has not.
 
 use benchmark::library::{OPTIMISED, PROVED};
-use benchmark::tables::{arguments, duration, every_line, tables};
+use benchmark::tables::{arguments, duration, tables};
 
 fn main() {
     let (_, rounds, chosen) = arguments(0, "benchmark [ROUNDS] [[-]NAME]");
@@ -12,7 +12,6 @@ fn main() {
     let head = ["proved", "Rust", "ratio", "nine in ten"];
     tables(
         [&[PROVED], &[OPTIMISED]],
-        &every_line(),
         rounds,
         &chosen,
         &head,

@@ -22,21 +22,21 @@ pub struct Measured {
 /// How long one library's part of a round is, if it has at least five calls.
 const PART: Duration = Duration::from_millis(4);
 
-/// What is timed: a call of each of two libraries, the same or not, on the same buffers.
+/// What is timed.
 pub trait Subject {
-    /// Puts the buffers back for the first library or the second.
-    fn prepare(&mut self, which: usize);
-    /// The call of it that is timed.
-    fn call(&mut self, which: usize, library: &Library);
+    /// Puts the buffers back.
+    fn prepare(&mut self);
+    /// The call that is timed.
+    fn call(&mut self, library: &Library);
 }
 
-/// The median time of `repeats` calls of the first library or the second.
-fn time(subject: &mut dyn Subject, which: usize, library: &Library, repeats: u32) -> f64 {
+/// The median time of `repeats` calls.
+fn time(subject: &mut dyn Subject, library: &Library, repeats: u32) -> f64 {
     let mut times = Vec::new();
     for _ in 0..repeats {
-        subject.prepare(which);
+        subject.prepare();
         let start = Instant::now();
-        subject.call(which, library);
+        subject.call(library);
         times.push(start.elapsed().as_secs_f64() * 1e9);
     }
     at(&sorted(times), 0.5)
@@ -55,7 +55,7 @@ fn sorted(mut numbers: Vec<f64>) -> Vec<f64> {
 /// Times two libraries in turn, each first in every other round. Of each there may be several copies,
 /// which take turns as well, so that no place in memory decides.
 pub fn measure(subject: &mut dyn Subject, libraries: [&[Library]; 2], rounds: usize) -> Measured {
-    let once = [0, 1].map(|which| time(subject, which, &libraries[which][0], 3));
+    let once = libraries.map(|copies| time(subject, &copies[0], 3));
     let longer = once[0].max(once[1]);
     let repeats = (PART.as_secs_f64() * 1e9 / longer).clamp(5.0, 20_000.0) as u32;
     let mut times = [Vec::new(), Vec::new()];
@@ -64,7 +64,7 @@ pub fn measure(subject: &mut dyn Subject, libraries: [&[Library]; 2], rounds: us
             let which = (round + turn) % 2;
             let copies = libraries[which];
             let library = &copies[round / 2 % copies.len()];
-            times[which].push(time(subject, which, library, repeats));
+            times[which].push(time(subject, library, repeats));
         }
     }
     let ratios = times[0].iter().zip(&times[1]).map(|(a, b)| a / b);

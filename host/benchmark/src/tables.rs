@@ -2,7 +2,7 @@
 
 use crate::bath::Bath;
 use crate::library::Library;
-use crate::lines::{name, Line, Pair, Timed};
+use crate::lines::{Line, Timed};
 use crate::measure::{measure, Measured};
 
 /// A time for people.
@@ -39,17 +39,10 @@ fn is_wanted(name: &str, chosen: &str) -> bool {
     }
 }
 
-/// Every operation by both libraries.
-pub fn every_line() -> Vec<Pair> {
-    Line::ALL.map(|line| [line; 2]).to_vec()
-}
-
-/// Prints the tables of two libraries, each with its copies, of these pairs of lines. `head` names the columns after the
-/// first, and `row` tells what stands there, for a pair's name with its bath, what was measured, and how many parts a call
-/// has.
+/// Prints the tables of two libraries, each with its copies. `head` names the columns after the first, and `row` tells what stands there, for a
+/// line's name with its bath, what was measured, and how many parts a call has.
 pub fn tables(
     libraries: [&[Library]; 2],
-    pairs: &[Pair],
     rounds: usize,
     chosen: &str,
     head: &[&str],
@@ -59,21 +52,20 @@ pub fn tables(
         println!("\n| {first} | {} |", head.join(" | "));
         println!("|{}", " --- |".repeat(1 + head.len()));
     };
-    let mut line = |first: &str, pair: Pair, bath: &Bath| {
-        let mut timed = Timed::new(pair, bath);
+    let mut line = |name: &str, line: Line, bath: &Bath| {
+        let mut timed = Timed::new(line, bath);
         let found = measure(&mut timed, libraries, rounds);
-        let whole = format!("{}, {bath}", name(pair));
+        let whole = format!("{}, {bath}", line.name());
         println!(
-            "| {first} | {} |",
+            "| {name} | {} |",
             row(&whole, found, timed.parts()).join(" | ")
         );
     };
     for bath in [Bath::new(4096, 48, 40), Bath::new(64, 8, 100)] {
         start(&bath.to_string());
-        for &pair in pairs {
-            let name = name(pair);
-            if is_wanted(&name, chosen) {
-                line(&name, pair, &bath);
+        for operation in Line::ALL {
+            if is_wanted(operation.name(), chosen) {
+                line(operation.name(), operation, &bath);
             }
         }
     }
@@ -83,7 +75,7 @@ pub fn tables(
         for baths in [growing, widening] {
             start(Line::RUN.name());
             for bath in &baths {
-                line(&bath.to_string(), [Line::RUN; 2], bath);
+                line(&bath.to_string(), Line::RUN, bath);
             }
         }
     }

@@ -91,14 +91,11 @@ fn vectors() {
 }
 
 /// The operations whose calls have arguments of every kind, and the most of them.
-const SOME: [(&str, Make); 6] = [
+const SOME: [(&str, Make); 5] = [
     ("write_record", inputs::write_record),
     ("update", |numbers| inputs::update(numbers, Caller::Bench)),
     ("gather", |numbers| inputs::gather(numbers, Caller::Bench)),
     ("run", |numbers| inputs::run(numbers, Caller::Bench)),
-    ("read_file", |numbers| {
-        inputs::read_file(numbers, Caller::Bench)
-    }),
     ("return_to", inputs::return_to),
 ];
 
@@ -138,8 +135,7 @@ fn sizes_of_sets() {
         let mut numbers = stream("sizes of sets", count as u64);
         let (at, bytes) = inputs::full_set(&mut numbers, Caller::Bench, count);
         let grid = reference::Grid::filled(at.nodes(), 3, 2, -1);
-        let totals = compare::running::sums(&bytes);
-        let before = Buffers::new(bytes, grid).with_totals(totals);
+        let before = Buffers::new(bytes, grid);
         let given = reference::Settings::new(at, 1, -1);
         let hindered = given.with_edge(reference::Edge::slip(1)).with_drag(30);
         let operations = [

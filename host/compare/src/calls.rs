@@ -8,8 +8,6 @@ use reference::{adding_scatter_for, gather_for, run_for, scatter_for, step_for, 
 use reference::{Edge, Header, Particle, Refusal, RunAnswer, Settings, Size, Sums, Totals};
 use vectors::{Answer, Buffers, Operation};
 
-use crate::running;
-
 /// A refusal in the reference's type.
 fn refusal(refusal: engine::Refusal) -> Refusal {
     Refusal::at(refusal.limit.number(), refusal.place)
@@ -91,7 +89,14 @@ fn from_engine(p: engine::Particle) -> Particle {
 
 /// Totals in the reference's type.
 fn from_totals(totals: engine::Totals) -> Totals {
-    Totals::from_values(totals.into())
+    Totals {
+        mass: totals.mass.into(),
+        px: totals.px.into(),
+        py: totals.py.into(),
+        angular_momentum: totals.angular_momentum.into(),
+        motion: totals.motion.into(),
+        marks: totals.marks.into(),
+    }
 }
 
 /// A header in the engine's type.
@@ -163,8 +168,6 @@ pub fn by_engine(caller: Caller, operation: Operation, buffers: &mut Buffers) ->
         y: &mut buffers.grid.y,
     };
     let grid = &mut grid;
-    let mut running = engine::Totals::from(buffers.totals.values());
-    let totals = &mut running;
     let done = |()| Answer::Done;
     let answer = match operation {
         Operation::ReadRecord => {
@@ -182,30 +185,24 @@ pub fn by_engine(caller: Caller, operation: Operation, buffers: &mut Buffers) ->
             called!(caller adding_scatter(size(at)?, bytes, grid)).map(done)
         }
         Operation::Update(given) => called!(caller update(settings(given)?, grid)).map(done),
-        Operation::Gather(at) => {
-            called!(caller gather(size(at)?, bytes, grid.x, grid.y, totals)).map(done)
-        }
-        Operation::Step(given) => {
-            called!(caller step(settings(given)?, bytes, grid, totals)).map(done)
-        }
+        Operation::Gather(at) => called!(caller gather(size(at)?, bytes, grid.x, grid.y)).map(done),
+        Operation::Step(given) => called!(caller step(settings(given)?, bytes, grid)).map(done),
         Operation::Run(given, steps) => {
             let (given, steps) = (settings(given)?, steps.try_into().ok()?);
-            let answer = called!(caller run(given, steps, bytes, grid, totals));
+            let answer = called!(caller run(given, steps, bytes, grid));
             Ok(Answer::Ran(from_run(answer)))
         }
         Operation::ReadFile => {
-            let header = called!(caller read_file(bytes, totals));
-            header.map(|header| Answer::Header(from_header(header)))
+            called!(caller read_file(bytes)).map(|header| Answer::Header(from_header(header)))
         }
         Operation::WriteHeader(header) => {
             engine::write_header(&to_header(header)?, bytes).map(done)
         }
         Operation::Keep => called!(caller keep(store, name, bytes)).map(done),
-        Operation::Return => engine::return_to(store, name, bytes, totals).map(Answer::Length),
+        Operation::Return => engine::return_to(store, name, bytes).map(Answer::Length),
         Operation::Forget => engine::forget(store, name).map(done),
         Operation::Program => return None,
     };
-    buffers.totals = from_totals(running);
     Some(answer.unwrap_or_else(|refused| Answer::Refused(refusal(refused))))
 }
 
@@ -237,10 +234,8 @@ pub fn by_library(
         x: &mut buffers.grid.x,
         y: &mut buffers.grid.y,
     };
-    let mut running = buffers.totals.values();
-    let totals = &mut running;
     let none = |answer| (answer, Vec::new());
-    let called = match operation {
+    Some(match operation {
         Operation::ReadRecord => handed(before, |values| library.read_record(bytes, values)),
         Operation::WriteRecord(p) => none(library.write_record(&to_engine(p)?, bytes)),
         Operation::CheckSet(at) => {
@@ -258,26 +253,22 @@ pub fn by_library(
         Operation::Scatter(at) => none(library.scatter(size(at)?, bytes, &mut grid)),
         Operation::AddingScatter(at) => none(library.adding_scatter(size(at)?, bytes, &mut grid)),
         Operation::Update(given) => none(library.update(settings(given)?, &mut grid)),
-        Operation::Gather(at) => none(library.gather(size(at)?, bytes, grid.x, grid.y, totals)),
-        Operation::Step(given) => none(library.step(settings(given)?, bytes, &mut grid, totals)),
+        Operation::Gather(at) => none(library.gather(size(at)?, bytes, grid.x, grid.y)),
+        Operation::Step(given) => none(library.step(settings(given)?, bytes, &mut grid)),
         Operation::Run(given, steps) => {
             let (given, steps) = (settings(given)?, steps.try_into().ok()?);
             let grid = &mut grid;
-            handed_one(before, |done| {
-                library.run(given, steps, bytes, grid, done, totals)
-            })
+            handed_one(before, |done| library.run(given, steps, bytes, grid, done))
         }
-        Operation::ReadFile => handed(before, |values| library.read_file(bytes, values, totals)),
+        Operation::ReadFile => handed(before, |values| library.read_file(bytes, values)),
         Operation::WriteHeader(header) => none(library.write_header(&to_header(header)?, bytes)),
         Operation::Keep => none(library.keep(store, name, bytes)),
         Operation::Return => handed_one(before, |length| {
-            library.return_to(store, name, bytes, length, totals)
+            library.return_to(store, name, bytes, length)
         }),
         Operation::Forget => none(library.forget(store, name)),
         Operation::Program => return None,
-    };
-    buffers.totals = Totals::from_values(running);
-    Some(called)
+    })
 }
 
 /// Which sums the reference takes: all terms where they are few, and those near each particle else.
@@ -293,24 +284,16 @@ fn sums(buffers: &Buffers) -> Sums {
 /// The answer of the reference to a caller; the buffers are left as the operation leaves them.
 pub fn by_reference(caller: Caller, operation: Operation, buffers: &mut Buffers) -> Answer {
     let sums = sums(buffers);
-    let Buffers {
-        bytes,
-        grid,
-        totals,
-        ..
-    } = buffers;
+    let Buffers { bytes, grid, .. } = buffers;
     let answer = match operation {
         Operation::Scatter(size) => scatter_for(caller, sums, size, bytes, &mut grid.buffers()),
         Operation::AddingScatter(size) => {
             adding_scatter_for(caller, sums, size, bytes, &mut grid.buffers())
         }
-        Operation::Gather(size) => gather_for(caller, sums, size, bytes, &grid.x, &grid.y, totals),
-        Operation::Step(settings) => {
-            step_for(caller, sums, settings, bytes, &mut grid.buffers(), totals)
-        }
+        Operation::Gather(size) => gather_for(caller, sums, size, bytes, &grid.x, &grid.y),
+        Operation::Step(settings) => step_for(caller, sums, settings, bytes, &mut grid.buffers()),
         Operation::Run(settings, steps) => {
-            let grid = &mut grid.buffers();
-            let answer = run_for(caller, sums, settings, steps, bytes, grid, totals);
+            let answer = run_for(caller, sums, settings, steps, bytes, &mut grid.buffers());
             return Answer::Ran(answer);
         }
         other => return vectors::perform(caller, other, buffers),
@@ -322,7 +305,7 @@ pub fn by_reference(caller: Caller, operation: Operation, buffers: &mut Buffers)
 ///
 /// # Panics
 ///
-/// Where answers or buffers differ, or running totals are not left as they have to be.
+/// Where answers or buffers differ.
 pub fn agreed(
     name: &str,
     caller: Caller,
@@ -342,11 +325,6 @@ pub fn agreed(
     assert!(
         found == expected,
         "{name}: buffers differ after {caller:?} {operation:?}\nbefore: {before:?}\nengine: {found:?}\nreference: {expected:?}"
-    );
-    assert_eq!(
-        found.totals,
-        running::left(operation, &answer, before, &found),
-        "{name}: running totals after {caller:?} {operation:?}"
     );
     Some((answer, found))
 }

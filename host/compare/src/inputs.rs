@@ -2,16 +2,12 @@
 //! operation that serves both callers lie about one caller's limits; either may be given them.
 
 use reference::generator::Generator;
-use reference::limits::{
-    HEADER_LENGTH, MAX_FILE_LENGTH, MAX_STORED_TOTAL, NAME_LENGTH, RECORD_LENGTH,
-};
+use reference::limits::{HEADER_LENGTH, MAX_FILE_LENGTH, NAME_LENGTH, RECORD_LENGTH};
 use reference::limits::{STORE_LENGTH, STORE_PLACES, STORE_PLACE_LENGTH};
 use reference::particle_set::pack_records;
 use reference::transfer::scatter_by;
-use reference::{Caller, Edge, Grid, Header, Particle, Settings, Size, Sums, Totals};
+use reference::{Caller, Edge, Grid, Header, Particle, Settings, Size, Sums};
 use vectors::{Buffers, Operation};
-
-use crate::steps;
 
 /// A number at an end of its range, one beyond, inside, inside but for a higher bit that a narrower
 /// type cuts off, or anywhere in its type.
@@ -266,25 +262,6 @@ fn any_grid(numbers: &mut Generator, size: Size) -> Grid {
     }
 }
 
-/// The least and the greatest that is accepted of each stored total.
-pub const STORED: [Ends; 6] = {
-    let (signed, counted) = ((-MAX_STORED_TOTAL, MAX_STORED_TOTAL), (0, MAX_STORED_TOTAL));
-    [counted, signed, signed, signed, counted, counted]
-};
-
-/// Running totals for these records: true, others that are accepted, such of which one is refused, and one in eight
-/// times with one that is near an end of its range or anything.
-fn stored(numbers: &mut Generator, records: &[u8]) -> Totals {
-    let whole = records.len() - records.len() % RECORD_LENGTH;
-    let particles = steps::particles(&records[..whole]);
-    let mut values = numbers.stored_totals(&particles).values();
-    if numbers.once_in(8) {
-        let at = place(numbers, values.len());
-        values[at] = near(numbers, STORED[at], I64) as i64;
-    }
-    Totals::from_values(values)
-}
-
 /// A call: an operation with its buffers.
 pub type Call = (Operation, Buffers);
 
@@ -475,8 +452,10 @@ fn halves(numbers: &mut Generator, size: Size, count: usize) -> Vec<i64> {
     (0..count).map(velocity).collect()
 }
 
-/// A gather of these records.
-fn gather_of(numbers: &mut Generator, size: Size, bytes: Vec<u8>) -> Call {
+/// Gather.
+pub fn gather(numbers: &mut Generator, caller: Caller) -> Call {
+    let size = size(numbers, caller);
+    let bytes = records(numbers, caller, size);
     let mut axis = || {
         let count = nodes(numbers, size);
         if numbers.once_in(4) {
@@ -493,24 +472,13 @@ fn gather_of(numbers: &mut Generator, size: Size, bytes: Vec<u8>) -> Call {
     (Operation::Gather(size), Buffers::new(bytes, grid))
 }
 
-/// Gather.
-pub fn gather(numbers: &mut Generator, caller: Caller) -> Call {
-    let size = size(numbers, caller);
-    let bytes = records(numbers, caller, size);
-    let totals = stored(numbers, &bytes);
-    let (operation, buffers) = gather_of(numbers, size, bytes);
-    (operation, buffers.with_totals(totals))
-}
-
 /// Step.
 pub fn step(numbers: &mut Generator, caller: Caller) -> Call {
     let size = size(numbers, caller);
     let settings = settings(numbers, size);
     let bytes = records(numbers, caller, size);
-    let totals = stored(numbers, &bytes);
     let grid = any_grid(numbers, size);
-    let buffers = Buffers::new(bytes, grid).with_totals(totals);
-    (Operation::Step(settings), buffers)
+    (Operation::Step(settings), Buffers::new(bytes, grid))
 }
 
 /// Whether edges or drag can keep particles from leaving: a long run then takes all of its steps.
@@ -621,9 +589,7 @@ pub fn read_file(numbers: &mut Generator, caller: Caller) -> Call {
         3 => file.truncate(numbers.between(0, 12) as usize),
         _ => {}
     }
-    let totals = stored(numbers, &[]);
-    let buffers = Buffers::of_bytes(file).with_totals(totals);
-    (Operation::ReadFile, buffers)
+    (Operation::ReadFile, Buffers::of_bytes(file))
 }
 
 /// Settings that a file holds, mostly with gravity weak enough for some steps, and with open edges or
@@ -902,9 +868,7 @@ pub fn return_from(numbers: &mut Generator, store: impl FnOnce(&mut Generator) -
     let pattern = any_bytes(numbers, 61);
     let buffer = pattern.into_iter().cycle().take(length as usize).collect();
     let (name, store) = (name(numbers), store(numbers));
-    let buffers = Buffers::of_store(store, &name, buffer);
-    let totals = stored(numbers, &[]);
-    (Operation::Return, buffers.with_totals(totals))
+    (Operation::Return, Buffers::of_store(store, &name, buffer))
 }
 
 /// Forget.
@@ -974,15 +938,6 @@ pub fn list_call(numbers: &mut Generator, caller: Caller, size: Size, records: &
     let bytes = records.to_vec();
     let grid = any_grid(numbers, given);
     (operation, Buffers::new(bytes, grid))
-}
-
-/// The same, or one in four times a gather.
-pub fn moving_call(numbers: &mut Generator, caller: Caller, size: Size, records: &[u8]) -> Call {
-    if numbers.once_in(4) {
-        gather_of(numbers, size, records.to_vec())
-    } else {
-        list_call(numbers, caller, size, records)
-    }
 }
 
 /// A grid that a set can be added to, for lists of additions: with nothing, with something, or almost

@@ -5,7 +5,6 @@
 //! | [`calls`] | a call by the engine and by the reference, and whether they agree |
 //! | [`inputs`] | inputs of every operation, valid and damaged, from a seeded stream |
 //! | [`steps`] | the completed steps of calls, and what demand 3 keeps over them |
-//! | [`running`] | what a call has to leave of running totals |
 //!
 //! Two environment variables set what the tests do: `COMPARE_SEED`, the seed, and `COMPARE_COUNT`,
 //! the number of inputs for each operation; other tests take a part of it, such as flows a quarter, and the
@@ -16,7 +15,6 @@
 
 pub mod calls;
 pub mod inputs;
-pub mod running;
 pub mod steps;
 
 use reference::generator::Generator;

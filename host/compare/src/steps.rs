@@ -3,7 +3,7 @@
 use reference::conservation::{Ledger, NodeChanges};
 use reference::limits::RECORD_LENGTH;
 use reference::simulation::step_by;
-use reference::{Grid, Particle, Settings, Sums, Totals};
+use reference::{Grid, Particle, Settings, Sums};
 use vectors::{Answer, Operation};
 
 /// The particles of accepted records.
@@ -35,8 +35,7 @@ pub fn work(steps: usize, settings: Settings, records: &mut [u8], sums: &mut Led
     for _ in 0..steps {
         let before = particles(records);
         let mut grid = Grid::zero(settings.size.nodes());
-        let totals = &mut Totals::default();
-        let step = step_by(Sums::Nearby, settings, records, &mut grid.buffers(), totals);
+        let step = step_by(Sums::Nearby, settings, records, &mut grid.buffers());
         step.expect("a completed step is not refused");
         let mut alone = Ledger::new(&before);
         let changes = NodeChanges::of_step(&before, settings);

@@ -5,11 +5,10 @@ use std::path::Path;
 
 use compare::calls::{agreed, by_engine};
 use compare::inputs::{self, Ends, I64, U64, USIZE};
-use compare::running::sums;
 use compare::{count, stream};
 use reference::limits::{HEADER_LENGTH, RECORD_LENGTH};
 use reference::report::report;
-use reference::{Caller, Edge, Grid, Header, Particle, Refusal, Settings, Size, Totals};
+use reference::{Caller, Edge, Grid, Header, Particle, Settings, Size};
 use vectors::{cases, Answer, Buffers, Operation};
 
 /// Every vector but the program's, for its caller.
@@ -180,35 +179,6 @@ fn wide_numbers_of_settings() {
     }
 }
 
-/// Each stored total at the ends of its range, and with each bit added to one or taken away: 25 exactly where it is
-/// beyond.
-#[test]
-fn wide_stored_totals() {
-    let size = Size::new(5, 4);
-    let (settings, gathered) = (Settings::new(size, 6, -7), Operation::Gather(size));
-    let stepped = [Operation::Step(settings), Operation::Run(settings, 0)];
-    let record = Particle::at_rest(7, 2, 90, 70).moving(3, -1);
-    let before = Buffers::new(record.pack().to_vec(), Grid::filled(20, 5, 300, -200));
-    for (at, (least, most)) in inputs::STORED.into_iter().enumerate() {
-        let bits = (0..63).flat_map(|bit| [1 << bit, -1 << bit]);
-        let about = bits.chain([0]).flat_map(|far| [least + far, most + far]);
-        for value in about.chain([I64.0, I64.1]) {
-            let accepted = (least..=most).contains(&value);
-            let mut values = [5, -6, 7, -8, 9, 10];
-            values[at] = value.try_into().expect("a number of 64 bits");
-            let before = before.clone().with_totals(Totals::from_values(values));
-            for operation in [gathered].into_iter().chain(stepped) {
-                for caller in Caller::ALL {
-                    let called = agreed("a stored total", caller, operation, &before);
-                    let (answer, _) = called.expect("a call");
-                    let refusal = (!accepted).then_some(Refusal::at(25, 0));
-                    assert_eq!(answer.refusal(), refusal, "{value} at {at}");
-                }
-            }
-        }
-    }
-}
-
 /// An open edge with a width, of any bit, is refused.
 #[test]
 fn wide_open_edges() {
@@ -279,9 +249,7 @@ fn text(file: &[u8]) -> String {
     };
     let record = |bytes: &[u8]| Particle::unpack(bytes.try_into().expect("a record"));
     let records = buffers.bytes.chunks(RECORD_LENGTH);
-    let particles: Vec<Particle> = records.map(record).collect();
-    assert_eq!(buffers.totals, Totals::of(&particles));
-    report(answer, &particles)
+    report(answer, &records.map(record).collect::<Vec<_>>())
 }
 
 #[test]
@@ -319,8 +287,7 @@ fn full_sets() {
         for (caller, records) in sets {
             let (size, bytes) = inputs::full_set(&mut numbers, caller, records);
             let grid = Grid::filled(size.nodes(), 5, 300, -200);
-            let totals = sums(&bytes);
-            let before = Buffers::new(bytes, grid).with_totals(totals);
+            let before = Buffers::new(bytes, grid);
             let settings = Settings::new(size, 1, -4096);
             for operation in [
                 Operation::CheckSet(size),

@@ -4,7 +4,7 @@
 use std::path::Path;
 
 use compare::{count, seed, stream};
-use engine::{affine_flow, run, step, totals, Flow, GridBuffers, Limit, NoFlow, Refusal, Totals};
+use engine::{affine_flow, run, step, Flow, GridBuffers, Limit, NoFlow, Refusal};
 use reference::bath_file::pack_file;
 use reference::generator::Generator;
 use reference::limits::MAX_VELOCITY;
@@ -188,24 +188,15 @@ fn open(size: Size) -> engine::Settings {
     }
 }
 
-/// A call on these records with open edges, grid buffers that hold something, and true running totals, which it
-/// leaves true.
-fn with_grid<T>(
-    size: Size,
-    records: &mut [u8],
-    call: impl FnOnce(engine::Settings, &mut [u8], &mut GridBuffers, &mut Totals) -> T,
-) -> T {
-    let (settings, nodes) = (open(size), size.nodes());
+/// A call with grid buffers that hold something.
+fn with_grid<T>(size: Size, call: impl FnOnce(&mut GridBuffers) -> T) -> T {
+    let nodes = size.nodes();
     let (mut mass, mut x, mut y) = (vec![5; nodes], vec![-7; nodes], vec![9; nodes]);
-    let mut grid = GridBuffers {
+    call(&mut GridBuffers {
         mass: &mut mass,
         x: &mut x,
         y: &mut y,
-    };
-    let mut running = totals(settings.size, records).expect("an accepted set");
-    let answer = call(settings, records, &mut grid, &mut running);
-    assert_eq!(totals(settings.size, records), Ok(running));
-    answer
+    })
 }
 
 fn off(place: usize) -> Refusal {
@@ -220,7 +211,7 @@ fn off(place: usize) -> Refusal {
 fn stepped(name: &str, bath: &Bath) -> bool {
     let mut records = pack_records(&bath.particles);
     let before = records.clone();
-    let answer = with_grid(bath.size, &mut records, step);
+    let answer = with_grid(bath.size, |grid| step(open(bath.size), &mut records, grid));
     match bath.first_off(&bath.particles) {
         None => {
             assert_eq!(answer, Ok(()), "{name}");
@@ -272,11 +263,9 @@ fn a_run_gives_a_drift_back() {
             Some((k, place))
         });
         let mut records = pack_records(&bath.particles);
-        let answer = with_grid(
-            bath.size,
-            &mut records,
-            |settings, records, grid, totals| run(settings, steps as usize, records, grid, totals),
-        );
+        let answer = with_grid(bath.size, |grid| {
+            run(open(bath.size), steps as usize, &mut records, grid)
+        });
         let completed = leaving.map_or(steps, |(k, _)| k);
         let refusal = leaving.map(|(_, place)| off(place));
         assert_eq!(
@@ -317,8 +306,7 @@ fn what_is_no_flow() {
         }
         let mut cut = pack_file(settings, 1, &bath.particles);
         cut.pop();
-        let read = engine::read_file(&cut, &mut Totals::default());
-        let refusal = read.expect_err("a file of another length");
+        let refusal = engine::read_file(&cut).expect_err("a file of another length");
         assert_eq!(affine_flow(&cut), Err(NoFlow::Refused(refusal)), "{name}");
 
         if bath.particles.len() < 2 {

@@ -1,11 +1,9 @@
 //! Lists of step and run calls: each gets the records that the one before left, refused ones
 //! included, and demand 3 holds of the whole list and of every completed step: identifiers, masses and
-//! marks are kept, and so are the sums, with what drag and rim change at the nodes. Running totals that are
-//! true at the start are so after each call. Lists are the bench's, or have calls of both callers on baths
-//! about the page's limits.
+//! marks are kept, and so are the sums, with what drag and rim change at the nodes. Lists are the bench's, or
+//! have calls of both callers on baths about the page's limits.
 
 use compare::calls::agreed;
-use compare::running::sums;
 use compare::steps::{completed, particles, work};
 use compare::{count, inputs, seed, stream};
 use reference::conservation::Ledger;
@@ -32,18 +30,15 @@ fn list(
     let told = format!("{name}, COMPARE_SEED {}, input {number}", seed());
     let mut numbers = stream(name, number);
     let (size, mut records) = start(&mut numbers);
-    let (mut ledger, mut totals) = (Ledger::new(&particles(&records)), sums(&records));
+    let mut sums = Ledger::new(&particles(&records));
     for _ in 0..numbers.between(1, 12) {
         let caller = callers[numbers.between(0, callers.len() as i128 - 1) as usize];
         let (operation, before) = inputs::list_call(&mut numbers, caller, size, &records);
-        let before = before.with_totals(totals);
         let called = agreed(&told, caller, operation, &before);
         let (answer, after) = called.expect("a call of the engine");
         let (done, settings) = completed(operation, &answer);
-        work(done, settings, &mut records, &mut ledger);
+        work(done, settings, &mut records, &mut sums);
         assert_eq!(after.bytes, records, "{told}: the last completed step");
-        totals = after.totals;
-        assert_eq!(totals, sums(&records), "{told}: true totals");
         if let Some(refusal) = answer.refusal() {
             seen.refused += 1;
             if caller == Caller::Page && settings.size == size {
@@ -54,8 +49,8 @@ fn list(
         seen.steps += done;
     }
     let end = particles(&records);
-    let kept = ledger.check(&end);
-    kept.unwrap_or_else(|why| panic!("{told}: {why}"));
+    sums.check(&end)
+        .unwrap_or_else(|why| panic!("{told}: {why}"));
 }
 
 #[test]

@@ -16,7 +16,7 @@ fn values(answer: Answer) -> Option<Vec<i128>> {
     match answer {
         Answer::Particle(particle) => Some(particle.fields().to_vec()),
         Answer::Count(number) | Answer::Length(number) => Some(vec![number as i128]),
-        Answer::Totals(totals) => Some(totals.values().map(i128::from).to_vec()),
+        Answer::Totals(totals) => Some(totals.values().to_vec()),
         Answer::Weights(row) => Some(row.to_vec()),
         Answer::Ran(answer) => Some(vec![answer.completed as i128]),
         Answer::Header(header) => Some(header.values().to_vec()),

@@ -10,7 +10,7 @@ use compare::{count, seed, stream};
 use program::program;
 use reference::limits::{HEADER_LENGTH, MAX_SET_LENGTH};
 use reference::report::program_by;
-use reference::{read_file, Header, Settings, Sums, Totals};
+use reference::{read_file, Header, Settings, Sums};
 
 /// From this many files on every kind of the list has to come up.
 const ENOUGH: u64 = 3_000;
@@ -37,14 +37,9 @@ fn run(program: &Path, file: &[u8], cut: usize) -> Output {
     child.wait_with_output().expect("the program ends")
 }
 
-/// The header of an accepted file.
-fn header(file: &[u8]) -> Option<Header> {
-    read_file(file, &mut Totals::default()).ok()
-}
-
 /// The reference's text: all terms of the sums where they are few, and those near each particle else.
 fn expected(file: &[u8]) -> String {
-    let terms = header(file).map_or(0, |header| {
+    let terms = read_file(file).map_or(0, |header| {
         header.settings.size.nodes() as i128 * header.count * header.steps
     });
     let sums = if terms <= 10_000 {
@@ -67,7 +62,7 @@ fn forcing(file: &[u8]) -> Option<String> {
         settings,
         count,
         steps,
-    } = header(file)?;
+    } = read_file(file).ok()?;
     let drag = if settings.drag > 0 { "drag" } else { "no drag" };
     (count > 0 && steps > 0).then(|| format!("kind {} with {drag}", settings.edge.kind))
 }
@@ -75,10 +70,10 @@ fn forcing(file: &[u8]) -> Option<String> {
 /// What a file shows, by its text: refused, completed or stopped, and by which number.
 fn kind(file: &[u8], text: &str) -> String {
     let words: Vec<&str> = text.lines().next().expect("a line").split(' ').collect();
-    match (words[0], header(file)) {
+    match (words[0], read_file(file)) {
         (
             "done",
-            Some(Header {
+            Ok(Header {
                 settings, steps, ..
             }),
         ) => {

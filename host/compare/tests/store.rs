@@ -5,14 +5,13 @@
 use std::collections::{BTreeMap, BTreeSet};
 
 use compare::calls::agreed;
-use compare::running::sums;
 use compare::steps::{completed, particles, work};
 use compare::{count, inputs, seed, stream};
 use reference::bath_file::{pack_file, read_file};
 use reference::conservation::Ledger;
 use reference::generator::Generator;
 use reference::limits::{HEADER_LENGTH, MAX_FILE_LENGTH, STORE_LENGTH, STORE_PLACES};
-use reference::{Caller, Refusal, Settings, Size, Store, Totals};
+use reference::{Caller, Refusal, Settings, Size, Store};
 use vectors::{Answer, Buffers, Operation};
 
 /// The bath last kept under each name and not forgotten.
@@ -157,12 +156,11 @@ fn damaged_stores() {
     }
 }
 
-/// What floats: its settings, its records, true running totals, and demand 3's sums from the last bath returned to.
+/// What floats: its settings, its records, and demand 3's sums from the last bath returned to.
 struct Floating {
     settings: Settings,
     records: Vec<u8>,
-    totals: Totals,
-    ledger: Ledger,
+    sums: Ledger,
 }
 
 impl Floating {
@@ -170,8 +168,7 @@ impl Floating {
         Floating {
             settings,
             records: records.to_vec(),
-            totals: sums(records),
-            ledger: Ledger::new(&particles(records)),
+            sums: Ledger::new(&particles(records)),
         }
     }
 
@@ -179,14 +176,11 @@ impl Floating {
     fn float(&mut self, told: &str, numbers: &mut Generator) -> usize {
         let (caller, size) = (any_caller(numbers), self.settings.size);
         let (operation, before) = inputs::list_call(numbers, caller, size, &self.records);
-        let before = before.with_totals(self.totals);
         let called = agreed(told, caller, operation, &before);
         let (answer, after) = called.expect("a call of the engine");
         let (done, settings) = completed(operation, &answer);
-        work(done, settings, &mut self.records, &mut self.ledger);
+        work(done, settings, &mut self.records, &mut self.sums);
         assert_eq!(after.bytes, self.records, "{told}: the last completed step");
-        self.totals = after.totals;
-        assert_eq!(self.totals, sums(&self.records), "{told}: true totals");
         done
     }
 
@@ -196,7 +190,7 @@ impl Floating {
     }
 
     fn check(&self, told: &str) {
-        let kept = self.ledger.check(&particles(&self.records));
+        let kept = self.sums.check(&particles(&self.records));
         kept.unwrap_or_else(|why| panic!("{told}: {why}"));
     }
 }
@@ -220,18 +214,16 @@ fn mixed(input: u64) -> (usize, usize) {
             7 | 8 => (Operation::Return, vec![0x5A; MAX_FILE_LENGTH]),
             _ => (Operation::Forget, Vec::new()),
         };
-        let before = Buffers::of_store(store, &name, bytes).with_totals(floating.totals);
+        let before = Buffers::of_store(store, &name, bytes);
         let caller = any_caller(&mut numbers);
         let (answer, after) = call(&told, caller, operation, &before, &mut baths);
         if let Answer::Length(length) = answer {
             floating.check(&told);
             let file = &after.bytes[..length];
-            let header = read_file(file, &mut Totals::default());
-            let settings = header.expect("an accepted file").settings;
+            let settings = read_file(file).expect("an accepted file").settings;
             floating = Floating::of(settings, &file[HEADER_LENGTH..]);
             returns += 1;
         }
-        assert_eq!(after.totals, floating.totals, "{told}: true totals");
         store = after.store;
     }
     floating.check(&told);

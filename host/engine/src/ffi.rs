@@ -115,7 +115,6 @@ functions! {
         ux_length: usize,
         uy: *const i64,
         uy_length: usize,
-        totals: *mut [i64; 6],
     ), gondwize_page_gather;
 
     fn gondwize_step(
@@ -134,7 +133,6 @@ functions! {
         px_length: usize,
         py: *mut i64,
         py_length: usize,
-        totals: *mut [i64; 6],
     ), gondwize_page_step;
 
     fn gondwize_run(
@@ -155,14 +153,12 @@ functions! {
         py: *mut i64,
         py_length: usize,
         completed: *mut u64,
-        totals: *mut [i64; 6],
     ), gondwize_page_run;
 
     fn gondwize_read_file(
         bytes: *const u8,
         bytes_length: usize,
         values: *mut [i64; 9],
-        totals: *mut [i64; 6],
     ), gondwize_page_read_file;
 
     fn gondwize_write_header(
@@ -196,7 +192,6 @@ functions! {
         buffer: *mut u8,
         buffer_length: usize,
         length: *mut u64,
-        totals: *mut [i64; 6],
     );
 
     fn gondwize_forget(store: *mut u8, store_length: usize, name: *const u8, name_length: usize);

@@ -4,8 +4,7 @@
 use std::error::Error;
 use std::fmt;
 
-use crate::{read_file, read_record, Edge, Particle, Refusal, Totals};
-use crate::{HEADER_LENGTH, RECORD_LENGTH};
+use crate::{read_file, read_record, Edge, Particle, Refusal, HEADER_LENGTH, RECORD_LENGTH};
 
 /// An affine flow: every particle has this B, and its velocity is A + B·(its place)/1024, with A in
 /// 256ths.
@@ -136,7 +135,7 @@ impl Flow {
 /// What makes it none: a refusal of [`read_file`]; then gravity, edge, drag; then for each record B and
 /// velocity.
 pub fn affine_flow(file: &[u8]) -> Result<Flow, NoFlow> {
-    let header = read_file(file, &mut Totals::default())?;
+    let header = read_file(file)?;
     if (header.gx, header.gy) != (0, 0) {
         return Err(NoFlow::Gravity);
     }

@@ -6,7 +6,7 @@
 //! and then has changed nothing, unless its own text says otherwise.
 //!
 //! ```
-//! use engine::{run, totals, write_record, Edge, GridBuffers, Particle, Settings, Size};
+//! use engine::{run, write_record, Edge, GridBuffers, Particle, Settings, Size};
 //!
 //! let particle =
 //!     Particle { identifier: 7, mass: 2, x: 64, y: 64, vx: 3, vy: -2, marks: 5, ..Particle::default() };
@@ -16,12 +16,10 @@
 //! let settings = Settings { size: Size { nx: 4, ny: 5 }, gx: 0, gy: 0, edge: Edge::Open, drag: 0 };
 //! let (mut mass, mut x, mut y) = ([0; 20], [0; 20], [0; 20]);
 //! let mut grid = GridBuffers { mass: &mut mass, x: &mut x, y: &mut y };
-//! let mut running = totals(settings.size, &records)?;
-//! let answer = run(settings, 1, &mut records, &mut grid, &mut running);
+//! let answer = run(settings, 1, &mut records, &mut grid);
 //! assert_eq!((answer.completed, answer.refusal), (1, None));
 //! let particle = engine::read_record(&records)?;
 //! assert_eq!((particle.x, particle.y, particle.marks), (67, 62, 5));
-//! assert_eq!(running, totals(settings.size, &records)?);
 //! # Ok::<(), engine::Refusal>(())
 //! ```
 //!
@@ -35,9 +33,6 @@
 //! | step, run | [`step`], [`run`] |
 //! | read a file, write its header | [`read_file`], [`write_header`] |
 //! | keep a bath under a name, return to it, forget it | [`keep`], [`return_to`], [`forget`] |
-//!
-//! Reading a file, returning, [`gather`], [`step`] and [`run`] are lent running [`Totals`], which are stored beside
-//! the records, and bring them up to date.
 //!
 //! These are the bench's. [`page`] has those of them that check a size, a set or a file with the smaller limits
 //! of the lesson page.
@@ -58,8 +53,6 @@ mod flow;
 pub mod library;
 pub mod page;
 mod refusal;
-
-use std::fmt;
 
 use library::{Library, PROVED};
 
@@ -203,48 +196,8 @@ pub struct GridBuffers<'a> {
     pub y: &'a mut [i64],
 }
 
-/// The sums over a particle set, or running totals, which are stored beside its records and may be any
-/// numbers.
-///
-/// Running totals are lent to [`read_file`], [`return_to`], [`gather`], [`step`] and [`run`]:
-///
-/// - A read and a return set them to the sums over the file's records, whatever they were.
-/// - A gather, a step and a run change each by exactly as much as the sum over the records changes; a run
-///   that is stopped, over its completed steps.
-/// - Any other refused call leaves them as they were.
-///
-/// So totals that are the sums over the records before a call are so after it, whatever it answers, and are
-/// never refused. A gather, a step and a run refuse with 25, as the last check at entry, before 13, 14 and 15,
-/// a total that is not −2^43 to 2^43, or a mass, motion or marks below 0; a run does not look again between
-/// its steps. A read and a return never look.
-///
-/// ```
-/// use engine::{read_file, step, totals, write_header, write_record, Edge, GridBuffers, Header, Limit};
-/// use engine::{Particle, Size, Totals};
-///
-/// let size = Size { nx: 5, ny: 4 };
-/// let header = Header { size, gx: 700, gy: -300, count: 1, steps: 9, edge: Edge::Open, drag: 3 };
-/// let particle = Particle { identifier: 7, mass: 2, x: 64, y: 70, vx: 3, marks: 5, ..Particle::default() };
-/// let mut file = [0; 11 + 15];
-/// write_header(&header, &mut file[..11])?;
-/// write_record(&particle, &mut file[11..])?;
-///
-/// let mut running = Totals::default();
-/// let settings = read_file(&file, &mut running)?.settings();
-/// assert_eq!(running.to_string(), "mass 2 px 6 py 0 spin -420 motion 18432 marks 5");
-///
-/// let records = &mut file[11..];
-/// let (mut mass, mut x, mut y) = ([0; 20], [0; 20], [0; 20]);
-/// let mut grid = GridBuffers { mass: &mut mass, x: &mut x, y: &mut y };
-/// step(settings, records, &mut grid, &mut running)?;
-/// assert_eq!(running, totals(size, records)?);
-///
-/// let mut negative = Totals { marks: -1, ..running };
-/// let refusal = step(settings, records, &mut grid, &mut negative).expect_err("marks below 0");
-/// assert_eq!((refusal.limit, negative.marks), (Limit::StoredTotal, -1));
-/// # Ok::<(), engine::Refusal>(())
-/// ```
-#[derive(Clone, Copy, Debug, Default, PartialEq, Eq, Hash)]
+/// The sums over a particle set.
+#[derive(Clone, Copy, Debug, PartialEq, Eq, Hash)]
 pub struct Totals {
     /// Sum of m.
     pub mass: i64,
@@ -255,60 +208,10 @@ pub struct Totals {
     /// Angular momentum about node (0, 0), affine part included: sum of m·(x·vy − y·vx + Byx − Bxy).
     pub angular_momentum: i64,
     /// Sum of m·(1024·(vx² + vy²) + Bxx² + Bxy² + Byx² + Byy²): 0 exactly where every velocity and
-    /// every entry of B is, and of a set always below 2^42.
+    /// every entry of B is, and always below 2^42.
     pub motion: i64,
     /// Sum of marks.
     pub marks: i64,
-}
-
-impl Totals {
-    /// Lends the values to a call, which may change them.
-    fn lend<T>(&mut self, call: impl FnOnce(&mut [i64; 6]) -> T) -> T {
-        let mut values = (*self).into();
-        let answer = call(&mut values);
-        *self = values.into();
-        answer
-    }
-}
-
-/// From the values in the order of the fields, as C has them.
-impl From<[i64; 6]> for Totals {
-    fn from([mass, px, py, angular_momentum, motion, marks]: [i64; 6]) -> Self {
-        Totals {
-            mass,
-            px,
-            py,
-            angular_momentum,
-            motion,
-            marks,
-        }
-    }
-}
-
-/// The values in the order of the fields.
-impl From<Totals> for [i64; 6] {
-    fn from(totals: Totals) -> Self {
-        let Totals {
-            mass,
-            px,
-            py,
-            angular_momentum,
-            motion,
-            marks,
-        } = totals;
-        [mass, px, py, angular_momentum, motion, marks]
-    }
-}
-
-/// As in a report's line of totals.
-impl fmt::Display for Totals {
-    fn fmt(&self, out: &mut fmt::Formatter) -> fmt::Result {
-        let [mass, px, py, spin, motion, marks] = <[i64; 6]>::from(*self);
-        write!(
-            out,
-            "mass {mass} px {px} py {py} spin {spin} motion {motion} marks {marks}"
-        )
-    }
 }
 
 /// The values of a bath file's header, as wide as [`Settings`] has them.
@@ -348,12 +251,12 @@ impl Header {
 ///
 /// ```compile_fail
 /// # #![deny(unused_must_use)]
-/// # use engine::{run, Edge, GridBuffers, Settings, Size, Totals};
+/// # use engine::{run, Edge, GridBuffers, Settings, Size};
 /// # let settings = Settings { size: Size { nx: 4, ny: 5 }, gx: 0, gy: 0, edge: Edge::Open, drag: 0 };
 /// # let mut records = [0; 0];
 /// # let (mut mass, mut x, mut y) = ([0; 20], [0; 20], [0; 20]);
 /// # let mut grid = GridBuffers { mass: &mut mass, x: &mut x, y: &mut y };
-/// run(settings, 1, &mut records, &mut grid, &mut Totals::default());
+/// run(settings, 1, &mut records, &mut grid);
 /// ```
 #[must_use = "a run can be refused, or stop before its last step"]
 #[derive(Clone, Copy, Debug, PartialEq, Eq, Hash)]
@@ -380,30 +283,15 @@ fn count_by(library: &Library, size: Size, records: &[u8]) -> Result<usize, Refu
 fn totals_by(library: &Library, size: Size, records: &[u8]) -> Result<Totals, Refusal> {
     let mut values = [0; 6];
     Refusal::check(library.totals(size, records, &mut values))?;
-    Ok(values.into())
-}
-
-/// A gather, by either caller's library.
-fn gather_by(
-    library: &Library,
-    size: Size,
-    records: &mut [u8],
-    x: &[i64],
-    y: &[i64],
-    totals: &mut Totals,
-) -> Result<(), Refusal> {
-    Refusal::check(totals.lend(|totals| library.gather(size, records, x, y, totals)))
-}
-
-/// A step, by either caller's library.
-fn step_by(
-    library: &Library,
-    settings: Settings,
-    records: &mut [u8],
-    grid: &mut GridBuffers,
-    totals: &mut Totals,
-) -> Result<(), Refusal> {
-    Refusal::check(totals.lend(|totals| library.step(settings, records, grid, totals)))
+    let [mass, px, py, angular_momentum, motion, marks] = values;
+    Ok(Totals {
+        mass,
+        px,
+        py,
+        angular_momentum,
+        motion,
+        marks,
+    })
 }
 
 /// A run, by either caller's library.
@@ -413,11 +301,9 @@ fn run_by(
     steps: usize,
     records: &mut [u8],
     grid: &mut GridBuffers,
-    totals: &mut Totals,
 ) -> RunAnswer {
     let mut completed = 0;
-    let code =
-        totals.lend(|totals| library.run(settings, steps, records, grid, &mut completed, totals));
+    let code = library.run(settings, steps, records, grid, &mut completed);
     RunAnswer {
         completed: completed as usize,
         refusal: Refusal::from_code(code),
@@ -425,9 +311,9 @@ fn run_by(
 }
 
 /// The values of a file's header, by either caller's library.
-fn header_by(library: &Library, bytes: &[u8], totals: &mut Totals) -> Result<Header, Refusal> {
+fn header_by(library: &Library, bytes: &[u8]) -> Result<Header, Refusal> {
     let mut values = [0; 9];
-    Refusal::check(totals.lend(|totals| library.read_file(bytes, &mut values, totals)))?;
+    Refusal::check(library.read_file(bytes, &mut values))?;
     let [nx, ny, gx, gy, count, steps, kind, width, drag] = values;
     Ok(Header {
         size: Size {
@@ -636,26 +522,20 @@ pub fn update(settings: Settings, grid: &mut GridBuffers) -> Result<(), Refusal>
 }
 
 /// Grid-to-particle transfer from node velocities: the records then hold the moved particles, their
-/// velocities and B rounded, and the running [`Totals`] have changed with them.
+/// velocities and B rounded.
 ///
 /// # Errors
 ///
-/// 2; 1, also for the velocity buffers; the set; 12 for each node; 25; then for each record 13, 14, 15.
-/// No record moves if any is refused, and no total changes.
-pub fn gather(
-    size: Size,
-    records: &mut [u8],
-    x: &[i64],
-    y: &[i64],
-    totals: &mut Totals,
-) -> Result<(), Refusal> {
-    gather_by(&PROVED, size, records, x, y, totals)
+/// 2; 1, also for the velocity buffers; the set; 12 for each node; then for each record 13, 14, 15.
+/// No record moves if any is refused.
+pub fn gather(size: Size, records: &mut [u8], x: &[i64], y: &[i64]) -> Result<(), Refusal> {
+    Refusal::check(PROVED.gather(size, records, x, y))
 }
 
-/// One step: [`scatter`], [`update`], [`gather`]. The running [`Totals`] have changed with the records.
+/// One step: [`scatter`], [`update`], [`gather`].
 ///
 /// ```
-/// use engine::{gather, scatter, step, totals, update, write_record};
+/// use engine::{gather, scatter, step, update, write_record};
 /// use engine::{Edge, GridBuffers, Particle, Settings, Size};
 ///
 /// let particle = Particle { identifier: 1, mass: 1, x: 64, y: 64, ..Particle::default() };
@@ -667,14 +547,12 @@ pub fn gather(
 /// let settings = Settings { size, gx: 384, gy: -128, edge: Edge::Open, drag: 0 };
 /// let (mut mass, mut x, mut y) = ([0; 20], [0; 20], [0; 20]);
 /// let mut grid = GridBuffers { mass: &mut mass, x: &mut x, y: &mut y };
-/// let mut running = totals(size, &records)?;
-/// let mut of_same = running;
-/// step(settings, &mut records, &mut grid, &mut running)?;
+/// step(settings, &mut records, &mut grid)?;
 ///
 /// scatter(size, &same, &mut grid)?;
 /// update(settings, &mut grid)?;
-/// gather(size, &mut same, grid.x, grid.y, &mut of_same)?;
-/// assert_eq!((records, running), (same, of_same));
+/// gather(size, &mut same, grid.x, grid.y)?;
+/// assert_eq!(records, same);
 /// // 384 and −128 of 256ths are 3/2 and −1/2.
 /// let particle = engine::read_record(&records)?;
 /// assert_eq!((particle.vx, particle.vy), (2, 0));
@@ -683,27 +561,21 @@ pub fn gather(
 ///
 /// # Errors
 ///
-/// 2; 1, also for the grid buffers; 10; 18; 19; the set; 25. Then for each record 13, 14, 15: records and
-/// totals are as they were, and the grid holds masses and updated velocities.
-pub fn step(
-    settings: Settings,
-    records: &mut [u8],
-    grid: &mut GridBuffers,
-    totals: &mut Totals,
-) -> Result<(), Refusal> {
-    step_by(&PROVED, settings, records, grid, totals)
+/// 2; 1, also for the grid buffers; 10; 18; 19; the set. Then for each record 13, 14, 15: the records
+/// are as they were, and the grid holds masses and updated velocities.
+pub fn step(settings: Settings, records: &mut [u8], grid: &mut GridBuffers) -> Result<(), Refusal> {
+    Refusal::check(PROVED.step(settings, records, grid))
 }
 
 /// The step repeated, as often as wanted or until one is refused.
 ///
-/// The refusal is one of 2; 1, also for the grid buffers; 10; 18; 19; 17; the set; 25, and nothing has
+/// The refusal is one of 2; 1, also for the grid buffers; 10; 18; 19; 17; the set, and nothing has
 /// changed; or 13, 14, 15 of the step that stopped the run. Then the records are those of the last
-/// completed step, the running [`Totals`] have changed with them, and the grid holds masses and updated
-/// velocities of the last step tried. A run of 0 steps touches nothing.
+/// completed step, and the grid holds masses and updated velocities of the last step tried. A run of 0
+/// steps touches nothing.
 ///
 /// ```
-/// use engine::{read_record, run, totals, write_record};
-/// use engine::{Edge, GridBuffers, Limit, Particle, Settings, Size};
+/// use engine::{read_record, run, write_record, Edge, GridBuffers, Limit, Particle, Settings, Size};
 ///
 /// let particle = Particle { identifier: 7, mass: 2, x: 214, y: 192, vx: 20, ..Particle::default() };
 /// let mut records = [0; engine::RECORD_LENGTH];
@@ -713,19 +585,15 @@ pub fn step(
 /// let open = Settings { size: Size { nx: 6, ny: 7 }, gx: 0, gy: 0, edge: Edge::Open, drag: 0 };
 /// let (mut mass, mut x, mut y) = ([0; 42], [0; 42], [0; 42]);
 /// let mut grid = GridBuffers { mass: &mut mass, x: &mut x, y: &mut y };
-/// let start = totals(open.size, &records)?;
-/// let mut running = start;
-/// let answer = run(open, 1000, &mut records, &mut grid, &mut running);
+/// let answer = run(open, 1000, &mut records, &mut grid);
 /// let refusal = answer.refusal.expect("the particle leaves the grid");
 /// assert_eq!((answer.completed, refusal.limit), (3, Limit::NewPosition));
 /// assert_eq!(read_record(&records)?.x, 274);
-/// assert_eq!(running, totals(open.size, &records)?);
 ///
 /// let sticky = Settings { edge: Edge::Sticky(2), ..open };
-/// running = start;
-/// let answer = run(sticky, 1000, &mut held, &mut grid, &mut running);
+/// let answer = run(sticky, 1000, &mut held, &mut grid);
 /// assert_eq!((answer.completed, answer.refusal), (1000, None));
-/// assert_eq!((read_record(&held)?.x, running.px), (260, 0));
+/// assert_eq!(read_record(&held)?.x, 260);
 /// # Ok::<(), engine::Refusal>(())
 /// ```
 pub fn run(
@@ -733,45 +601,42 @@ pub fn run(
     steps: usize,
     records: &mut [u8],
     grid: &mut GridBuffers,
-    totals: &mut Totals,
 ) -> RunAnswer {
-    run_by(&PROVED, settings, steps, records, grid, totals)
+    run_by(&PROVED, settings, steps, records, grid)
 }
 
-/// Reads a bath file: the header's values. The records lie from byte 11 on, and the running [`Totals`] are
-/// the sums over them. The edge is one of the first three of [`Edge`].
+/// Reads a bath file: the header's values. The records lie from byte 11 on. The edge is one of the first
+/// three of [`Edge`].
 ///
 /// ```
-/// use engine::{read_file, Edge, Totals};
+/// use engine::{read_file, Edge};
 ///
 /// let file = [0x20, 0x60, 0x03, 0x3F, 0x00, 0x00, 0x00, 0x01, 0x40, 0x60, 0x90];
-/// let mut running = Totals { px: 40, marks: -9, ..Totals::default() };
-/// let header = read_file(&file, &mut running)?;
+/// let header = read_file(&file)?;
 /// assert_eq!((header.size.nx, header.size.ny), (8, 6));
 /// assert_eq!((header.gx, header.gy), (12, -256));
 /// assert_eq!((header.count, header.steps), (0, 10));
 /// assert_eq!((header.edge, header.drag), (Edge::Sticky(2), 9));
-/// assert_eq!(running, Totals::default());
 /// # Ok::<(), engine::Refusal>(())
 /// ```
 ///
 /// # Errors
 ///
 /// 1 shorter than 11; 2; 10; 18; 3; 17; 16; 1 length not 11 + 15·count; then the set.
-pub fn read_file(bytes: &[u8], totals: &mut Totals) -> Result<Header, Refusal> {
-    header_by(&PROVED, bytes, totals)
+pub fn read_file(bytes: &[u8]) -> Result<Header, Refusal> {
+    header_by(&PROVED, bytes)
 }
 
 /// Writes a bath file's header into the buffer, spare bits zero.
 ///
 /// ```
-/// use engine::{read_file, write_header, Edge, Header, Limit, Size, Totals, HEADER_LENGTH};
+/// use engine::{read_file, write_header, Edge, Header, Limit, Size, HEADER_LENGTH};
 ///
 /// let size = Size { nx: 8, ny: 6 };
 /// let header = Header { size, gx: 12, gy: -256, count: 0, steps: 10, edge: Edge::Slip(3), drag: 9 };
 /// let mut file = [0; HEADER_LENGTH];
 /// write_header(&header, &mut file)?;
-/// assert_eq!(read_file(&file, &mut Totals::default()), Ok(header));
+/// assert_eq!(read_file(&file), Ok(header));
 ///
 /// let wide = Header { edge: Edge::Numbered { kind: 0, width: 1 }, ..header };
 /// let refusal = write_header(&wide, &mut file).expect_err("an open edge with a width");
@@ -795,19 +660,19 @@ pub fn write_header(header: &Header, bytes: &mut [u8]) -> Result<(), Refusal> {
 /// that is free; the baths under other names stay as they are.
 ///
 /// ```
-/// use engine::{forget, keep, return_to, Limit, Totals, MOST_FILE_LENGTH, STORE_LENGTH};
+/// use engine::{forget, keep, return_to, Limit, MOST_FILE_LENGTH, STORE_LENGTH};
 ///
 /// let start = [0x20, 0x60, 0x03, 0x3F, 0x00, 0x00, 0x00, 0x01, 0x40, 0x60, 0x90];
 /// let mut store = vec![0; STORE_LENGTH];
 /// keep(&mut store, b"START", &start)?;
 ///
-/// let (mut buffer, mut running) = (vec![0; MOST_FILE_LENGTH], Totals::default());
-/// let length = return_to(&store, b"START", &mut buffer, &mut running)?;
+/// let mut buffer = vec![0; MOST_FILE_LENGTH];
+/// let length = return_to(&store, b"START", &mut buffer)?;
 /// assert_eq!(buffer[..length], start);
 ///
 /// forget(&mut store, b"START")?;
-/// let returned = return_to(&store, b"START", &mut buffer, &mut running);
-/// assert_eq!(returned.expect_err("a name that was forgotten").limit, Limit::NotHeld);
+/// let refusal = return_to(&store, b"START", &mut buffer).expect_err("a name that was forgotten");
+/// assert_eq!(refusal.limit, Limit::NotHeld);
 /// # Ok::<(), engine::Refusal>(())
 /// ```
 ///
@@ -819,21 +684,14 @@ pub fn keep(store: &mut [u8], name: &[u8], file: &[u8]) -> Result<(), Refusal> {
 }
 
 /// Returns to the bath that is kept under a name: its file stands at the front of the buffer, whose rest
-/// stays as it is, its length is the result, and the running [`Totals`] are the sums over its records.
+/// stays as it is, and its length is the result.
 ///
 /// # Errors
 ///
 /// 1 a store of another length or form; 1 a buffer shorter than [`MOST_FILE_LENGTH`]; 22; 23.
-pub fn return_to(
-    store: &[u8],
-    name: &[u8],
-    buffer: &mut [u8],
-    totals: &mut Totals,
-) -> Result<usize, Refusal> {
+pub fn return_to(store: &[u8], name: &[u8], buffer: &mut [u8]) -> Result<usize, Refusal> {
     let mut length = 0;
-    Refusal::check(
-        totals.lend(|totals| PROVED.return_to(store, name, buffer, &mut length, totals)),
-    )?;
+    Refusal::check(PROVED.return_to(store, name, buffer, &mut length))?;
     Ok(length as usize)
 }
 

@@ -1,6 +1,5 @@
 //! The calls of `include/gondwize.h` on slices, with its numbers as answers. A refused call leaves the
-//! values that it hands out as they were, but for the completed steps of a run. The totals that a call is
-//! lent are those of [`Totals`](crate::Totals), in its order.
+//! values that it hands out as they were, but for the completed steps of a run.
 //!
 //! The safe functions of this crate call these. A [`Library`] can be another one with the same calls;
 //! only unsafe code can make one:
@@ -21,7 +20,6 @@ type Numbers = *const i64;
 type NumbersOut = *mut i64;
 type Masses = *const u64;
 type MassesOut = *mut u64;
-type TotalsOut = *mut [i64; 6];
 type Scatter = unsafe extern "C" fn(
     usize,
     usize,
@@ -56,7 +54,7 @@ pub struct Functions {
         usize,
     ) -> u64,
     pub check_set: unsafe extern "C" fn(usize, usize, Bytes, usize, *mut u64) -> u64,
-    pub totals: unsafe extern "C" fn(usize, usize, Bytes, usize, TotalsOut) -> u64,
+    pub totals: unsafe extern "C" fn(usize, usize, Bytes, usize, *mut [i64; 6]) -> u64,
     pub weights: unsafe extern "C" fn(i64, *mut [i64; 3]) -> u64,
     pub scatter: Scatter,
     pub adding_scatter: Scatter,
@@ -75,17 +73,8 @@ pub struct Functions {
         NumbersOut,
         usize,
     ) -> u64,
-    pub gather: unsafe extern "C" fn(
-        usize,
-        usize,
-        BytesOut,
-        usize,
-        Numbers,
-        usize,
-        Numbers,
-        usize,
-        TotalsOut,
-    ) -> u64,
+    pub gather:
+        unsafe extern "C" fn(usize, usize, BytesOut, usize, Numbers, usize, Numbers, usize) -> u64,
     pub step: unsafe extern "C" fn(
         usize,
         usize,
@@ -102,7 +91,6 @@ pub struct Functions {
         usize,
         NumbersOut,
         usize,
-        TotalsOut,
     ) -> u64,
     pub run: unsafe extern "C" fn(
         usize,
@@ -122,9 +110,8 @@ pub struct Functions {
         NumbersOut,
         usize,
         *mut u64,
-        TotalsOut,
     ) -> u64,
-    pub read_file: unsafe extern "C" fn(Bytes, usize, *mut [i64; 9], TotalsOut) -> u64,
+    pub read_file: unsafe extern "C" fn(Bytes, usize, *mut [i64; 9]) -> u64,
     pub write_header: unsafe extern "C" fn(
         usize,
         usize,
@@ -139,16 +126,8 @@ pub struct Functions {
         usize,
     ) -> u64,
     pub keep: unsafe extern "C" fn(BytesOut, usize, Bytes, usize, Bytes, usize) -> u64,
-    pub return_to: unsafe extern "C" fn(
-        Bytes,
-        usize,
-        Bytes,
-        usize,
-        BytesOut,
-        usize,
-        *mut u64,
-        TotalsOut,
-    ) -> u64,
+    pub return_to:
+        unsafe extern "C" fn(Bytes, usize, Bytes, usize, BytesOut, usize, *mut u64) -> u64,
     pub forget: unsafe extern "C" fn(BytesOut, usize, Bytes, usize) -> u64,
 }
 
@@ -333,14 +312,7 @@ impl Library {
 
     /// Gather.
     #[must_use]
-    pub fn gather(
-        &self,
-        size: Size,
-        records: &mut [u8],
-        x: &[i64],
-        y: &[i64],
-        totals: &mut [i64; 6],
-    ) -> u64 {
+    pub fn gather(&self, size: Size, records: &mut [u8], x: &[i64], y: &[i64]) -> u64 {
         unsafe {
             (self.functions.gather)(
                 size.nx,
@@ -351,20 +323,13 @@ impl Library {
                 x.len(),
                 y.as_ptr(),
                 y.len(),
-                totals,
             )
         }
     }
 
     /// Step.
     #[must_use]
-    pub fn step(
-        &self,
-        settings: Settings,
-        records: &mut [u8],
-        grid: &mut GridBuffers,
-        totals: &mut [i64; 6],
-    ) -> u64 {
+    pub fn step(&self, settings: Settings, records: &mut [u8], grid: &mut GridBuffers) -> u64 {
         let Settings {
             size,
             gx,
@@ -389,7 +354,6 @@ impl Library {
                 grid.x.len(),
                 grid.y.as_mut_ptr(),
                 grid.y.len(),
-                totals,
             )
         }
     }
@@ -403,7 +367,6 @@ impl Library {
         records: &mut [u8],
         grid: &mut GridBuffers,
         completed: &mut u64,
-        totals: &mut [i64; 6],
     ) -> u64 {
         let Settings {
             size,
@@ -431,15 +394,14 @@ impl Library {
                 grid.y.as_mut_ptr(),
                 grid.y.len(),
                 completed,
-                totals,
             )
         }
     }
 
-    /// Read a file: nine values, and the running totals.
+    /// Read a file: nine values.
     #[must_use]
-    pub fn read_file(&self, bytes: &[u8], values: &mut [i64; 9], totals: &mut [i64; 6]) -> u64 {
-        unsafe { (self.functions.read_file)(bytes.as_ptr(), bytes.len(), values, totals) }
+    pub fn read_file(&self, bytes: &[u8], values: &mut [i64; 9]) -> u64 {
+        unsafe { (self.functions.read_file)(bytes.as_ptr(), bytes.len(), values) }
     }
 
     /// Write a header.
@@ -477,16 +439,9 @@ impl Library {
         }
     }
 
-    /// Return: the length of the file, and the running totals.
+    /// Return: the length of the file.
     #[must_use]
-    pub fn return_to(
-        &self,
-        store: &[u8],
-        name: &[u8],
-        buffer: &mut [u8],
-        length: &mut u64,
-        totals: &mut [i64; 6],
-    ) -> u64 {
+    pub fn return_to(&self, store: &[u8], name: &[u8], buffer: &mut [u8], length: &mut u64) -> u64 {
         unsafe {
             (self.functions.return_to)(
                 store.as_ptr(),
@@ -496,7 +451,6 @@ impl Library {
                 buffer.as_mut_ptr(),
                 buffer.len(),
                 length,
-                totals,
             )
         }
     }

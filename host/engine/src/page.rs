@@ -12,8 +12,7 @@
 //! with 1. A store is of the same form for both, and may hold baths that the page does not take.
 //!
 //! ```
-//! use engine::{page, run, totals, write_record};
-//! use engine::{Edge, GridBuffers, Limit, Particle, Settings, Size};
+//! use engine::{page, run, write_record, Edge, GridBuffers, Limit, Particle, Settings, Size};
 //!
 //! let particle = Particle { identifier: 7, mass: 2, x: 64, y: 64, vx: 3, ..Particle::default() };
 //! let mut records = [0; engine::RECORD_LENGTH];
@@ -22,21 +21,19 @@
 //! let small = Settings { size: Size { nx: 16, ny: 5 }, gx: 0, gy: 0, edge: Edge::Open, drag: 0 };
 //! let (mut mass, mut x, mut y) = ([0; 17 * 5], [0; 17 * 5], [0; 17 * 5]);
 //! let mut grid = GridBuffers { mass: &mut mass[..80], x: &mut x[..80], y: &mut y[..80] };
-//! let mut running = totals(small.size, &records)?;
-//! assert_eq!(page::run(small, 9, &mut records, &mut grid, &mut running).completed, 9);
+//! assert_eq!(page::run(small, 9, &mut records, &mut grid).completed, 9);
 //!
 //! let wide = Settings { size: Size { nx: 17, ny: 5 }, ..small };
 //! let mut grid = GridBuffers { mass: &mut mass, x: &mut x, y: &mut y };
-//! let refusal = page::run(wide, 9, &mut records, &mut grid, &mut running).refusal.expect("17 nodes");
+//! let refusal = page::run(wide, 9, &mut records, &mut grid).refusal.expect("17 nodes");
 //! assert_eq!(refusal.limit, Limit::GridSize);
-//! assert_eq!(run(wide, 9, &mut records, &mut grid, &mut running).completed, 9);
+//! assert_eq!(run(wide, 9, &mut records, &mut grid).completed, 9);
 //! # Ok::<(), engine::Refusal>(())
 //! ```
 
 use crate::library::PAGE;
-use crate::{count_by, gather_by, header_by, run_by, step_by, totals_by};
+use crate::{count_by, header_by, run_by, totals_by, HEADER_LENGTH, RECORD_LENGTH};
 use crate::{GridBuffers, Header, Refusal, RunAnswer, Settings, Size, Totals};
-use crate::{HEADER_LENGTH, RECORD_LENGTH};
 
 /// Most nodes along an axis.
 pub const MOST_NODES: usize = 16;
@@ -98,14 +95,8 @@ pub fn update(settings: Settings, grid: &mut GridBuffers) -> Result<(), Refusal>
 /// # Errors
 ///
 /// Its own, with the page's limits; 3 after 1.
-pub fn gather(
-    size: Size,
-    records: &mut [u8],
-    x: &[i64],
-    y: &[i64],
-    totals: &mut Totals,
-) -> Result<(), Refusal> {
-    gather_by(&PAGE, size, records, x, y, totals)
+pub fn gather(size: Size, records: &mut [u8], x: &[i64], y: &[i64]) -> Result<(), Refusal> {
+    Refusal::check(PAGE.gather(size, records, x, y))
 }
 
 /// [`step`](crate::step) for the page.
@@ -113,13 +104,8 @@ pub fn gather(
 /// # Errors
 ///
 /// Its own, with the page's limits; 3 after 1.
-pub fn step(
-    settings: Settings,
-    records: &mut [u8],
-    grid: &mut GridBuffers,
-    totals: &mut Totals,
-) -> Result<(), Refusal> {
-    step_by(&PAGE, settings, records, grid, totals)
+pub fn step(settings: Settings, records: &mut [u8], grid: &mut GridBuffers) -> Result<(), Refusal> {
+    Refusal::check(PAGE.step(settings, records, grid))
 }
 
 /// [`run`](crate::run) for the page; 3 comes after 1.
@@ -128,9 +114,8 @@ pub fn run(
     steps: usize,
     records: &mut [u8],
     grid: &mut GridBuffers,
-    totals: &mut Totals,
 ) -> RunAnswer {
-    run_by(&PAGE, settings, steps, records, grid, totals)
+    run_by(&PAGE, settings, steps, records, grid)
 }
 
 /// [`read_file`](crate::read_file) for the page.
@@ -138,8 +123,8 @@ pub fn run(
 /// # Errors
 ///
 /// Its own, with the page's limits.
-pub fn read_file(bytes: &[u8], totals: &mut Totals) -> Result<Header, Refusal> {
-    header_by(&PAGE, bytes, totals)
+pub fn read_file(bytes: &[u8]) -> Result<Header, Refusal> {
+    header_by(&PAGE, bytes)
 }
 
 /// [`keep`](crate::keep) for the page.

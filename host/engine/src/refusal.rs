@@ -53,11 +53,10 @@ limits! {
     22 Name "a name is not 1 to 8 letters A to Z",
     23 NotHeld "the name is not held",
     24 FullStore "four other names are held",
-    25 StoredTotal "a stored total is not -2^43 to 2^43, or for mass, motion and marks 0 to 2^43",
 }
 
 impl Limit {
-    /// The limit's number, 1 to 25.
+    /// The limit's number, 1 to 24.
     #[must_use]
     pub fn number(self) -> u32 {
         self as u32

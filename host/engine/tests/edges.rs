@@ -1,7 +1,7 @@
 //! Edges and drag: by name and by number, in a file and in a call, and what is refused.
 
 use engine::{read_file, run, step, update, write_header, write_record};
-use engine::{Edge, GridBuffers, Header, Limit, Particle, Refusal, Settings, Size, Totals};
+use engine::{Edge, GridBuffers, Header, Limit, Particle, Refusal, Settings, Size};
 use engine::{HEADER_LENGTH, RECORD_LENGTH};
 
 const SIZE: Size = Size { nx: 5, ny: 7 };
@@ -57,44 +57,32 @@ fn record() -> [u8; RECORD_LENGTH] {
     record
 }
 
-/// What a call leaves: its answer, a record, the grid and the running totals.
+/// What a call leaves: its answer, a record and the grid.
 type Left = (
     Result<(), Refusal>,
     [u8; RECORD_LENGTH],
     [u64; NODES],
     [[i64; NODES]; 2],
-    Totals,
 );
-
-/// The running totals that a call is lent.
-const RUNNING: Totals = Totals {
-    mass: 3,
-    px: -40,
-    py: 15,
-    angular_momentum: 900,
-    motion: 70_000,
-    marks: 8,
-};
 
 /// Update, step and run by these settings, each on the same record and grid.
 fn calls(settings: Settings) -> [Left; 3] {
-    type Call = fn(Settings, &mut [u8], &mut GridBuffers, &mut Totals) -> Result<(), Refusal>;
-    let call = |call: Call| {
-        let (mut record, mut mass, mut totals) = (record(), [3; NODES], RUNNING);
+    let call = |call: fn(Settings, &mut [u8], &mut GridBuffers) -> Result<(), Refusal>| {
+        let (mut record, mut mass) = (record(), [3; NODES]);
         let [mut x, mut y] = [[1000; NODES], [-500; NODES]];
         let mut grid = GridBuffers {
             mass: &mut mass,
             x: &mut x,
             y: &mut y,
         };
-        let answer = call(settings, &mut record, &mut grid, &mut totals);
-        (answer, record, mass, [x, y], totals)
+        let answer = call(settings, &mut record, &mut grid);
+        (answer, record, mass, [x, y])
     };
     [
-        call(|settings, _, grid, _| update(settings, grid)),
+        call(|settings, _, grid| update(settings, grid)),
         call(step),
-        call(|settings, records, grid, totals| {
-            let answer = run(settings, 2, records, grid, totals);
+        call(|settings, records, grid| {
+            let answer = run(settings, 2, records, grid);
             assert_eq!(
                 answer.completed,
                 if answer.refusal.is_none() { 2 } else { 0 }
@@ -110,7 +98,7 @@ fn refused(edge: Edge, drag: usize, limit: Limit) {
     for left in calls(settings(edge, drag)) {
         let grid = [[1000; NODES], [-500; NODES]];
         assert!(
-            left == (Err(refusal), record(), [3; NODES], grid, RUNNING),
+            left == (Err(refusal), record(), [3; NODES], grid),
             "{edge:?}"
         );
     }
@@ -145,8 +133,7 @@ fn in_a_file() {
         for given in [edge, Edge::Numbered { kind, width }] {
             let mut file = [0; HEADER_LENGTH];
             write_header(&header(given, 37), &mut file).expect("a header in range");
-            let read = read_file(&file, &mut Totals::default());
-            assert_eq!(read, Ok(header(edge, 37)));
+            assert_eq!(read_file(&file), Ok(header(edge, 37)));
         }
     }
 }
@@ -160,8 +147,7 @@ fn a_file_with_no_edge() {
         file[9] = bits << 4;
         let (kind, width) = (usize::from(bits / 4), usize::from(bits % 4));
         let accepted = EDGES.iter().any(|edge| (edge.1, edge.2) == (kind, width));
-        let read = read_file(&file, &mut Totals::default());
-        let limit = read.err().map(|refusal| refusal.limit);
+        let limit = read_file(&file).err().map(|refusal| refusal.limit);
         assert_eq!(limit, (!accepted).then_some(Limit::Edge));
     }
 }

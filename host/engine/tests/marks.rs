@@ -3,7 +3,7 @@
 use engine::RECORD_LENGTH;
 use engine::{adding_scatter, check_set, gather, read_record, run, scatter, step, totals, update};
 use engine::{keep, return_to, write_header, write_record};
-use engine::{Edge, GridBuffers, Header, Limit, Particle, Refusal, Settings, Size, Totals};
+use engine::{Edge, GridBuffers, Header, Limit, Particle, Refusal, Settings, Size};
 use engine::{HEADER_LENGTH, MOST_FILE_LENGTH, STORE_LENGTH};
 
 const SIZE: Size = Size { nx: 8, ny: 9 };
@@ -50,9 +50,8 @@ fn records() -> [u8; 2 * RECORD_LENGTH] {
     records
 }
 
-/// Each record has the identifier and marks that it started with, their sum is the same, and these running
-/// totals are true.
-fn kept(records: &[u8], running: Totals) {
+/// Each record has the identifier and marks that it started with, and their sum is the same.
+fn kept(records: &[u8]) {
     for (particle, record) in PARTICLES.iter().zip(records.chunks_exact(RECORD_LENGTH)) {
         let found = read_record(record).expect("a record");
         assert_eq!(
@@ -60,7 +59,7 @@ fn kept(records: &[u8], running: Totals) {
             (particle.identifier, particle.marks)
         );
     }
-    assert_eq!((totals(SIZE, records), running.marks), (Ok(running), 267));
+    assert_eq!(totals(SIZE, records).map(|totals| totals.marks), Ok(267));
 }
 
 /// Gravity that is rounded away, open edges, no drag.
@@ -88,8 +87,8 @@ fn every_number() {
     }
 }
 
-/// The records of a file that is kept and returned to, with the running totals.
-fn returned(records: &[u8]) -> (Vec<u8>, Totals) {
+/// The records of a file that is kept and returned to.
+fn returned(records: &[u8]) -> Vec<u8> {
     let header = Header {
         size: SIZE,
         gx: 0,
@@ -104,10 +103,8 @@ fn returned(records: &[u8]) -> (Vec<u8>, Totals) {
     file.extend(records);
     let (mut store, mut buffer) = (vec![0; STORE_LENGTH], vec![0; MOST_FILE_LENGTH]);
     keep(&mut store, b"MARKS", &file).expect("a place that is free");
-    let mut running = Totals::default();
-    let length = return_to(&store, b"MARKS", &mut buffer, &mut running);
-    let length = length.expect("a name that is held");
-    (buffer[HEADER_LENGTH..length].to_vec(), running)
+    let length = return_to(&store, b"MARKS", &mut buffer).expect("a name that is held");
+    buffer[HEADER_LENGTH..length].to_vec()
 }
 
 #[test]
@@ -119,48 +116,39 @@ fn left_by_every_call() {
         x: &mut x,
         y: &mut y,
     };
-    let mut running = totals(SIZE, &records).expect("an accepted set");
-    let lent = &mut running;
-    kept(&records, *lent);
+    kept(&records);
     assert_eq!(check_set(SIZE, &records), Ok(2));
     scatter(SIZE, &records, grid).expect("an accepted set");
     adding_scatter(SIZE, &records, grid).expect("an accepted set");
-    kept(&records, *lent);
+    kept(&records);
     update(OPEN, grid).expect("a scattered set");
-    gather(SIZE, &mut records, grid.x, grid.y, lent).expect("a gather");
-    kept(&records, *lent);
-    step(OPEN, &mut records, grid, lent).expect("a step");
-    kept(&records, *lent);
-    let answer = run(OPEN, 12, &mut records, grid, lent);
+    gather(SIZE, &mut records, grid.x, grid.y).expect("a gather");
+    kept(&records);
+    step(OPEN, &mut records, grid).expect("a step");
+    kept(&records);
+    let answer = run(OPEN, 12, &mut records, grid);
     assert_eq!((answer.completed, answer.refusal), (12, None));
-    kept(&records, *lent);
-    let (again, of_again) = returned(&records);
-    kept(&again, of_again);
+    kept(&records);
+    kept(&returned(&records));
 
-    let before = (records, *lent);
+    let before = records;
     let drag = Settings { drag: 256, ..OPEN };
     let gravity = Settings { gy: 4097, ..OPEN };
     let refused = [
-        (run(drag, 3, &mut records, grid, lent).refusal, Limit::Drag),
-        (
-            run(OPEN, 10_001, &mut records, grid, lent).refusal,
-            Limit::Steps,
-        ),
-        (
-            step(gravity, &mut records, grid, lent).err(),
-            Limit::Gravity,
-        ),
+        (run(drag, 3, &mut records, grid).refusal, Limit::Drag),
+        (run(OPEN, 10_001, &mut records, grid).refusal, Limit::Steps),
+        (step(gravity, &mut records, grid).err(), Limit::Gravity),
     ];
     for (refusal, limit) in refused {
         assert_eq!(refusal, Some(Refusal { limit, place: 0 }));
     }
-    assert_eq!((records, *lent), before);
+    assert_eq!(records, before);
 
     // From x = 198 on, by 7 at each step, to 415.
-    let answer = run(OPEN, 1000, &mut records, grid, lent);
+    let answer = run(OPEN, 1000, &mut records, grid);
     let stopped = answer.refusal.map(|refusal| refusal.limit);
     assert_eq!((answer.completed, stopped), (31, Some(Limit::NewPosition)));
-    kept(&records, *lent);
-    assert!(step(OPEN, &mut records, grid, lent).is_err());
-    kept(&records, *lent);
+    kept(&records);
+    assert!(step(OPEN, &mut records, grid).is_err());
+    kept(&records);
 }

@@ -2,27 +2,24 @@
 //! which take what the page refuses.
 
 use engine::{forget, page, return_to, write_header, write_record};
-use engine::{
-    Edge, GridBuffers, Header, Limit, Particle, Refusal, RunAnswer, Settings, Size, Totals,
-};
+use engine::{Edge, GridBuffers, Header, Limit, Particle, Refusal, RunAnswer, Settings, Size};
 use engine::{HEADER_LENGTH, RECORD_LENGTH, STORE_LENGTH};
 
 const MOST: usize = page::MOST_RECORDS;
 
 type Done = Result<(), Refusal>;
-type Gather = fn(Size, &mut [u8], &[i64], &[i64], &mut Totals) -> Done;
 
 /// The functions of a caller.
 struct Calls {
     check_set: fn(Size, &[u8]) -> Result<usize, Refusal>,
-    totals: fn(Size, &[u8]) -> Result<Totals, Refusal>,
+    totals: fn(Size, &[u8]) -> Result<engine::Totals, Refusal>,
     scatter: fn(Size, &[u8], &mut GridBuffers) -> Done,
     adding_scatter: fn(Size, &[u8], &mut GridBuffers) -> Done,
     update: fn(Settings, &mut GridBuffers) -> Done,
-    gather: Gather,
-    step: fn(Settings, &mut [u8], &mut GridBuffers, &mut Totals) -> Done,
-    run: fn(Settings, usize, &mut [u8], &mut GridBuffers, &mut Totals) -> RunAnswer,
-    read_file: fn(&[u8], &mut Totals) -> Result<Header, Refusal>,
+    gather: fn(Size, &mut [u8], &[i64], &[i64]) -> Done,
+    step: fn(Settings, &mut [u8], &mut GridBuffers) -> Done,
+    run: fn(Settings, usize, &mut [u8], &mut GridBuffers) -> RunAnswer,
+    read_file: fn(&[u8]) -> Result<Header, Refusal>,
     keep: fn(&mut [u8], &[u8], &[u8]) -> Done,
 }
 
@@ -56,7 +53,6 @@ struct Bath {
     mass: Vec<u64>,
     x: Vec<i64>,
     y: Vec<i64>,
-    totals: Totals,
 }
 
 impl Bath {
@@ -89,7 +85,6 @@ impl Bath {
             mass: vec![5; nx * ny],
             x: vec![300; nx * ny],
             y: vec![-200; nx * ny],
-            totals: Totals::from([70, -60, 50, -40, 30, 20]),
         }
     }
 
@@ -130,15 +125,14 @@ impl Bath {
             settings, steps, ..
         } = *self;
         let size = settings.size;
-        type Call<'a> = &'a dyn Fn(&mut [u8], &mut GridBuffers, &mut Totals) -> Option<Refusal>;
-        let call = |call: Call| {
+        let call = |call: &dyn Fn(&mut [u8], &mut GridBuffers) -> Option<Refusal>| {
             let mut after = self.clone();
             let mut grid = GridBuffers {
                 mass: &mut after.mass,
                 x: &mut after.x,
                 y: &mut after.y,
             };
-            let refusal = call(&mut after.records, &mut grid, &mut after.totals);
+            let refusal = call(&mut after.records, &mut grid);
             assert!(refusal.is_none() || after == *self, "{refusal:?}");
             refusal
         };
@@ -147,26 +141,24 @@ impl Bath {
             ("totals", (calls.totals)(size, &self.records).err()),
             (
                 "scatter",
-                call(&|records, grid, _| (calls.scatter)(size, records, grid).err()),
+                call(&|records, grid| (calls.scatter)(size, records, grid).err()),
             ),
             (
                 "adding scatter",
-                call(&|records, grid, _| (calls.adding_scatter)(size, records, grid).err()),
+                call(&|records, grid| (calls.adding_scatter)(size, records, grid).err()),
             ),
             (
                 "gather",
-                call(&|records, grid, totals| {
-                    (calls.gather)(size, records, grid.x, grid.y, totals).err()
-                }),
+                call(&|records, grid| (calls.gather)(size, records, grid.x, grid.y).err()),
             ),
             (
                 "step",
-                call(&|records, grid, totals| (calls.step)(settings, records, grid, totals).err()),
+                call(&|records, grid| (calls.step)(settings, records, grid).err()),
             ),
             (
                 "run",
-                call(&|records, grid, totals| {
-                    let answer = (calls.run)(settings, steps, records, grid, totals);
+                call(&|records, grid| {
+                    let answer = (calls.run)(settings, steps, records, grid);
                     let taken = if answer.refusal.is_none() { steps } else { 0 };
                     assert_eq!(answer.completed, taken);
                     answer.refusal
@@ -191,13 +183,11 @@ impl Bath {
     /// What read a file and keep answer; a refused keep leaves its store, an accepted one can be returned to.
     fn kept(&self, calls: &Calls) -> Option<Refusal> {
         let file = self.file();
-        let mut totals = self.totals;
-        let read = (calls.read_file)(&file, &mut totals).err();
-        assert_eq!(totals == self.totals, read.is_some());
+        let read = (calls.read_file)(&file).err();
         let mut store = vec![0; STORE_LENGTH];
         assert_eq!((calls.keep)(&mut store, b"NAME", &file).err(), read);
         let mut buffer = vec![0; engine::MOST_FILE_LENGTH];
-        let length = return_to(&store, b"NAME", &mut buffer, &mut totals).ok();
+        let length = return_to(&store, b"NAME", &mut buffer).ok();
         assert_eq!(length, read.is_none().then_some(file.len()));
         if read.is_none() {
             assert!(buffer[..file.len()] == file);
@@ -285,14 +275,13 @@ fn order_in_calls() {
             assert_eq!(limit, Some(expected), "{name}");
         }
     }
-    let later: [fn(&mut Bath); 7] = [
+    let later: [fn(&mut Bath); 6] = [
         |bath| bath.settings.gx = 4097,
         |bath| bath.settings.edge = Edge::Sticky(0),
         |bath| bath.settings.drag = 256,
         |bath| bath.steps = 10_001,
         |bath| bath.records[2..4].fill(0),
         |bath| bath.x[3] = i64::MAX,
-        |bath| bath.totals.mass = -1,
     ];
     for change in later {
         large.with(change).page_answers(Some(Limit::Count));
@@ -329,7 +318,7 @@ fn order_in_files() {
             assert_eq!(kept(&mut store[1..], b"a"), Some(Limit::Length));
             assert!(store.iter().all(|&byte| byte == 0));
             assert_eq!(kept(&mut store, b"A"), limit);
-            let read = (calls.read_file)(&file, &mut Totals::default()).err();
+            let read = (calls.read_file)(&file).err();
             assert_eq!(read.map(|refusal| refusal.limit), limit);
         }
     }
@@ -365,8 +354,7 @@ fn a_store_with_baths_of_the_bench() {
         (b"ABCDEFGH", &large),
         (b"OTHER", &small),
     ] {
-        let length = return_to(&store, name, &mut buffer, &mut Totals::default());
-        assert_eq!(length, Ok(file.len()));
+        assert_eq!(return_to(&store, name, &mut buffer), Ok(file.len()));
         assert!(buffer[..file.len()] == file[..]);
     }
 }
@@ -381,8 +369,7 @@ fn a_run_of_both() {
             x: &mut bath.x,
             y: &mut bath.y,
         };
-        let (records, totals) = (&mut bath.records, &mut bath.totals);
-        let answer = (calls.run)(bath.settings, 40, records, &mut grid, totals);
+        let answer = (calls.run)(bath.settings, 40, &mut bath.records, &mut grid);
         assert_eq!((answer.completed, answer.refusal), (40, None));
     }
     assert!(baths[0] == baths[1] && baths[0] != Bath::new(16, 11, MOST));

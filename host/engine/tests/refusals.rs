@@ -55,8 +55,8 @@ fn the_table_of_the_readme() {
 }
 
 #[test]
-fn numbers_from_1_to_25() {
-    let numbers: Vec<u32> = (1..=25).collect();
+fn numbers_from_1_to_24() {
+    let numbers: Vec<u32> = (1..=24).collect();
     assert_eq!(Limit::ALL.map(Limit::number)[..], numbers);
 }
 

@@ -2,7 +2,7 @@
 //! baths, and stores that are damaged.
 
 use engine::{forget, keep, read_file, return_to, run, totals, write_header, write_record};
-use engine::{Edge, GridBuffers, Header, Limit, Particle, Refusal, Size, Totals};
+use engine::{Edge, GridBuffers, Header, Limit, Particle, Refusal, Size};
 use engine::{HEADER_LENGTH, MOST_FILE_LENGTH, NAME_LENGTH, RECORD_LENGTH};
 use engine::{STORE_LENGTH, STORE_PLACES, STORE_PLACE_LENGTH};
 
@@ -11,15 +11,11 @@ fn refused<T>(limit: Limit) -> Result<T, Refusal> {
     Err(Refusal { limit, place: 0 })
 }
 
-/// Running totals of no set, which no call has to take.
-const NONE: [i64; 6] = [-1, i64::MIN, 7, i64::MAX, -8, -9];
-
-/// A bath as the bench has it, with true running totals.
+/// A bath as the bench has it.
 #[derive(Clone, Debug, PartialEq)]
 struct Bath {
     header: Header,
     records: Vec<u8>,
-    totals: Totals,
 }
 
 impl Bath {
@@ -51,11 +47,7 @@ impl Bath {
             edge: Edge::Open,
             drag: 0,
         };
-        Bath {
-            header,
-            totals: totals(size, &records).expect("an accepted set"),
-            records,
-        }
+        Bath { header, records }
     }
 
     fn file(&self) -> Vec<u8> {
@@ -74,10 +66,8 @@ impl Bath {
             x: &mut x,
             y: &mut y,
         };
-        let (records, running) = (&mut self.records, &mut self.totals);
-        let answer = run(self.header.settings(), steps, records, &mut grid, running);
+        let answer = run(self.header.settings(), steps, &mut self.records, &mut grid);
         assert_eq!((answer.completed, answer.refusal), (steps, None));
-        assert_eq!(totals(self.header.size, &self.records), Ok(self.totals));
     }
 
     fn keep(&self, store: &mut [u8], name: &str) {
@@ -87,18 +77,12 @@ impl Bath {
     /// The bath that is kept under a name.
     fn kept(store: &[u8], name: &str) -> Self {
         let mut buffer = vec![0xA5; MOST_FILE_LENGTH + 9];
-        let mut returned = Totals::from(NONE);
-        let length = return_to(store, name.as_bytes(), &mut buffer, &mut returned);
-        let length = length.expect("a name that is held");
+        let length = return_to(store, name.as_bytes(), &mut buffer).expect("a name that is held");
         assert!(buffer[length..].iter().all(|&byte| byte == 0xA5));
         buffer.truncate(length);
-        let mut totals = Totals::from(NONE);
-        let header = read_file(&buffer, &mut totals).expect("an accepted file");
-        assert_eq!(returned, totals);
         Bath {
-            header,
+            header: read_file(&buffer).expect("an accepted file"),
             records: buffer.split_off(HEADER_LENGTH),
-            totals,
         }
     }
 }
@@ -140,8 +124,9 @@ fn a_lesson() {
     assert_eq!(again, calm);
     again.float(9);
     assert_eq!(again, later);
+    let sums = |bath: &Bath| totals(bath.header.size, &bath.records).expect("an accepted set");
     for bath in [&again, &Bath::kept(&store, "WILD")] {
-        let (found, first) = (bath.totals, start.totals);
+        let (found, first) = (sums(bath), sums(&start));
         assert_eq!((found.mass, found.marks), (first.mass, first.marks));
     }
 
@@ -183,7 +168,6 @@ fn four_of_the_largest_baths() {
 fn names_and_files_that_are_refused() {
     let before = store(4);
     let (mut after, mut buffer) = (before.clone(), vec![0xA5; MOST_FILE_LENGTH]);
-    let mut running = Totals::from(NONE);
     let names: [&[u8]; 9] = [
         b"",
         b"a",
@@ -197,8 +181,7 @@ fn names_and_files_that_are_refused() {
     ];
     for name in names {
         assert_eq!(keep(&mut after, name, &[]), refused(Limit::Name));
-        let returned = return_to(&after, name, &mut buffer, &mut running);
-        assert_eq!(returned, refused(Limit::Name));
+        assert_eq!(return_to(&after, name, &mut buffer), refused(Limit::Name));
         assert_eq!(forget(&mut after, name), refused(Limit::Name));
     }
     for name in [&b"AB"[..], b"ABCDEFG", b"Z"] {
@@ -207,8 +190,10 @@ fn names_and_files_that_are_refused() {
             keep(&mut after, name, &Bath::new(1).file()),
             refused(Limit::FullStore)
         );
-        let returned = return_to(&after, name, &mut buffer, &mut running);
-        assert_eq!(returned, refused(Limit::NotHeld));
+        assert_eq!(
+            return_to(&after, name, &mut buffer),
+            refused(Limit::NotHeld)
+        );
         assert_eq!(forget(&mut after, name), refused(Limit::NotHeld));
     }
     let mut twice = Bath::new(3);
@@ -222,13 +207,10 @@ fn names_and_files_that_are_refused() {
     assert_eq!(keep(&mut after, b"Z", &twice.file()), Err(repeated));
     for length in [0, HEADER_LENGTH, MOST_FILE_LENGTH - 1] {
         let short = &mut buffer[..length];
-        for name in [&b"A"[..], b""] {
-            let returned = return_to(&after, name, short, &mut running);
-            assert_eq!(returned, refused(Limit::Length));
-        }
+        assert_eq!(return_to(&after, b"A", short), refused(Limit::Length));
+        assert_eq!(return_to(&after, b"", short), refused(Limit::Length));
     }
     assert!(after == before && buffer == vec![0xA5; MOST_FILE_LENGTH]);
-    assert_eq!(running, NONE.into());
 }
 
 /// Each of these breaks the form of a store of four baths, of which the second has one particle.
@@ -280,10 +262,8 @@ fn damaged_stores() {
                 "{what}"
             );
             assert_eq!(forget(&mut after, name), refused(Limit::Length), "{what}");
-            let mut running = Totals::from(NONE);
-            let answer = return_to(&after, name, &mut buffer, &mut running);
+            let answer = return_to(&after, name, &mut buffer);
             assert_eq!(answer, refused(Limit::Length), "{what}");
-            assert_eq!(running, NONE.into(), "{what}");
             assert!(
                 after == before && buffer == vec![0xA5; MOST_FILE_LENGTH],
                 "{what}"

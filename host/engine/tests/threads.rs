@@ -6,7 +6,7 @@ use engine::{
     adding_scatter, check_set, forget, gather, keep, page, read_file, return_to, run, scatter,
     step, totals, update, write_header, write_record,
 };
-use engine::{Edge, GridBuffers, Header, Limit, Particle, Refusal, Settings, Size, Totals};
+use engine::{Edge, GridBuffers, Header, Limit, Particle, Refusal, Settings, Size};
 use engine::{HEADER_LENGTH, MOST_FILE_LENGTH, RECORD_LENGTH, STORE_LENGTH};
 
 /// Calls on a thread with so many kB of stack.
@@ -24,7 +24,6 @@ struct Bath {
     records: Vec<u8>,
     mass: Vec<u64>,
     velocity: [Vec<i64>; 2],
-    totals: Totals,
 }
 
 impl Bath {
@@ -64,7 +63,6 @@ impl Bath {
             records,
             mass: vec![0; nodes],
             velocity: [vec![0; nodes], vec![0; nodes]],
-            totals: Totals::default(),
         }
     }
 
@@ -75,18 +73,16 @@ impl Bath {
             records,
             mass,
             velocity: [x, y],
-            totals: running,
         } = self;
         let (settings, size) = (*settings, settings.size);
-        let grid = &mut GridBuffers { mass, x, y };
-        let ran = run(settings, steps, records, grid, running);
+        let ran = run(settings, steps, records, &mut GridBuffers { mass, x, y });
         assert_eq!(ran.completed, steps, "{:?}", ran.refusal);
         check_set(size, records)?;
         totals(size, records)?;
-        scatter(size, records, grid)?;
-        update(settings, grid)?;
-        gather(size, records, grid.x, grid.y, running)?;
-        step(settings, records, grid, running)
+        scatter(size, records, &mut GridBuffers { mass, x, y })?;
+        update(settings, &mut GridBuffers { mass, x, y })?;
+        gather(size, records, x, y)?;
+        step(settings, records, &mut GridBuffers { mass, x, y })
     }
 
     /// A run of the page of so many steps, and a step.
@@ -96,12 +92,11 @@ impl Bath {
             records,
             mass,
             velocity: [x, y],
-            totals,
         } = self;
         let grid = &mut GridBuffers { mass, x, y };
-        let ran = page::run(*settings, steps, records, grid, totals);
+        let ran = page::run(*settings, steps, records, grid);
         assert_eq!(ran.completed, steps, "{:?}", ran.refusal);
-        page::step(*settings, records, grid, totals)
+        page::step(*settings, records, grid)
     }
 
     /// The page's other operations on the set.
@@ -111,7 +106,6 @@ impl Bath {
             records,
             mass,
             velocity: [x, y],
-            totals,
         } = self;
         let (settings, size) = (*settings, settings.size);
         let grid = &mut GridBuffers { mass, x, y };
@@ -120,7 +114,7 @@ impl Bath {
         page::scatter(size, records, grid)?;
         page::adding_scatter(size, records, grid)?;
         page::update(settings, grid)?;
-        page::gather(size, records, grid.x, grid.y, totals)
+        page::gather(size, records, grid.x, grid.y)
     }
 
     /// The set added to a grid of zeros, and to that of itself.
@@ -130,7 +124,6 @@ impl Bath {
             records,
             mass,
             velocity: [x, y],
-            ..
         } = self;
         let grid = &mut GridBuffers { mass, x, y };
         adding_scatter(*size, records, grid)?;
@@ -144,17 +137,16 @@ impl Bath {
             records,
             mass,
             velocity: [x, y],
-            totals: running,
         } = self;
         let (settings, size) = (*settings, settings.size);
         let grid = &mut GridBuffers { mass, x, y };
         let refusals = [
-            run(settings, 0, records, grid, running).refusal,
-            run(settings, 9, records, grid, running).refusal,
-            step(settings, records, grid, running).err(),
+            run(settings, 0, records, grid).refusal,
+            run(settings, 9, records, grid).refusal,
+            step(settings, records, grid).err(),
             scatter(size, records, grid).err(),
             adding_scatter(size, records, grid).err(),
-            gather(size, records, grid.x, grid.y, running).err(),
+            gather(size, records, grid.x, grid.y).err(),
             check_set(size, records).err(),
             totals(size, records).err(),
         ];
@@ -212,7 +204,7 @@ fn empty_and_small_sets() {
         let calls = || {
             bath.calls(0)?;
             bath.calls(9)?;
-            read_file(&file, &mut bath.totals)
+            read_file(&file)
         };
         assert!(with_stack(64, calls).is_ok(), "{count}");
     }
@@ -226,7 +218,7 @@ fn the_largest_set() {
         let calls = || {
             bath.calls(0)?;
             bath.calls(3)?;
-            read_file(&file, &mut bath.totals)
+            read_file(&file)
         };
         assert!(with_stack(256, calls).is_ok(), "{count}");
     }
@@ -243,7 +235,7 @@ fn sets_of_the_page() {
             bath.page_run(0)?;
             bath.page_run(9)?;
             page::keep(&mut store, b"PAGE", &file)?;
-            page::read_file(&file, &mut bath.totals)
+            page::read_file(&file)
         };
         assert!(with_stack(64, runs).is_ok(), "{count}");
         assert_eq!(with_stack(128, || bath.page_calls()), Ok(()), "{count}");
@@ -272,8 +264,7 @@ fn stores() {
                 keep(&mut store, name, &file)?;
             }
             for name in names {
-                let length = return_to(&store, name, &mut buffer, &mut Totals::default());
-                assert_eq!(length, Ok(file.len()));
+                assert_eq!(return_to(&store, name, &mut buffer), Ok(file.len()));
                 keep(&mut store, name, &file)?;
             }
             let full = keep(&mut store, b"FIFTH", &file).map_err(|refusal| refusal.limit);

@@ -23,14 +23,14 @@ macro_rules! call {
 }
 
 /// The caller in brackets, or none. For each function: its numbers, then its slices as pointers with
-/// lengths, then the values that it hands out and the running totals as pointers, in the header's order.
+/// lengths, then the values that it hands out as a pointer, in the header's order.
 macro_rules! exports {
     ($caller:tt $(
         $(#[$doc:meta])*
         $name:ident(
             $($number:ident: $type:ty),*;
             $($slice:ident $length:ident: $kind:tt $element:ty),*
-            $(; $($out:ident: $values:ty),+)?
+            $(; $out:ident: $values:ty)?
         );
     )*) => {
         $(
@@ -44,13 +44,13 @@ macro_rules! exports {
             pub unsafe extern "C" fn $name(
                 $($number: $type,)*
                 $($slice: pointer!($kind $element), $length: usize,)*
-                $($($out: *mut $values,)+)?
+                $($out: *mut $values,)?
             ) -> u64 {
                 // SAFETY: by what is asked of the caller.
                 $(let $slice = unsafe { slice!($kind $slice $length) };)*
                 // SAFETY: as above.
-                $($(let $out = unsafe { &mut *$out };)+)?
-                call!($caller $name $($number)* $($slice)* $($($out)+)?)
+                $(let $out = unsafe { &mut *$out };)?
+                call!($caller $name $($number)* $($slice)* $($out)?)
             }
         )*
     };
@@ -79,7 +79,7 @@ exports! {
     /// Write a header.
     write_header(nx: usize, ny: usize, gx: i64, gy: i64, count: usize, steps: usize, kind: usize, width: usize, drag: usize; bytes bytes_length: write u8);
     /// Return.
-    return_to(; store store_length: read u8, name name_length: read u8, buffer buffer_length: write u8; length: u64, totals: [i64; 6]);
+    return_to(; store store_length: read u8, name name_length: read u8, buffer buffer_length: write u8; length: u64);
     /// Forget.
     forget(; store store_length: write u8, name name_length: read u8);
 }
@@ -96,13 +96,13 @@ callers! {
     /// Update.
     update(nx: usize, ny: usize, gx: i64, gy: i64, kind: usize, width: usize, drag: usize; mass mass_length: read u64, px px_length: write i64, py py_length: write i64);
     /// Gather.
-    gather(nx: usize, ny: usize; records records_length: write u8, ux ux_length: read i64, uy uy_length: read i64; totals: [i64; 6]);
+    gather(nx: usize, ny: usize; records records_length: write u8, ux ux_length: read i64, uy uy_length: read i64);
     /// Step.
-    step(nx: usize, ny: usize, gx: i64, gy: i64, kind: usize, width: usize, drag: usize; records records_length: write u8, mass mass_length: write u64, px px_length: write i64, py py_length: write i64; totals: [i64; 6]);
+    step(nx: usize, ny: usize, gx: i64, gy: i64, kind: usize, width: usize, drag: usize; records records_length: write u8, mass mass_length: write u64, px px_length: write i64, py py_length: write i64);
     /// Run.
-    run(nx: usize, ny: usize, gx: i64, gy: i64, kind: usize, width: usize, drag: usize, steps: usize; records records_length: write u8, mass mass_length: write u64, px px_length: write i64, py py_length: write i64; completed: u64, totals: [i64; 6]);
+    run(nx: usize, ny: usize, gx: i64, gy: i64, kind: usize, width: usize, drag: usize, steps: usize; records records_length: write u8, mass mass_length: write u64, px px_length: write i64, py py_length: write i64; completed: u64);
     /// Read a file.
-    read_file(; bytes bytes_length: read u8; values: [i64; 9], totals: [i64; 6]);
+    read_file(; bytes bytes_length: read u8; values: [i64; 9]);
     /// Keep.
     keep(; store store_length: write u8, name name_length: read u8, file file_length: read u8);
 }

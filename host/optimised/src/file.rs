@@ -2,8 +2,7 @@
 
 use crate::caller::{Caller, Limits};
 use crate::particle::RECORD_LENGTH;
-use crate::running::Totals;
-use crate::set::{check_records, sum_accepted, sum_records, MOST};
+use crate::set::{check_records, MOST};
 use crate::settings::Settings;
 use crate::{answer, refused};
 
@@ -45,9 +44,9 @@ fn count_in(second: u64) -> usize {
     (second >> 35 & 8191) as usize
 }
 
-/// The settings, count, steps and records of a file that is accepted if its records are.
+/// The values of an accepted file.
 #[inline(always)]
-fn parts(limits: Limits, bytes: &[u8]) -> Result<(Settings, usize, usize, &[u8]), u64> {
+pub fn found(limits: Limits, bytes: &[u8]) -> Result<[i64; 9], u64> {
     let Some((header, records)) = bytes.split_first_chunk::<HEADER_LENGTH>() else {
         return Err(refused(1, 0));
     };
@@ -69,20 +68,6 @@ fn parts(limits: Limits, bytes: &[u8]) -> Result<(Settings, usize, usize, &[u8])
     if records.len() != RECORD_LENGTH * count {
         return Err(refused(1, 0));
     }
-    Ok((settings, count, steps, records))
-}
-
-/// Whether a file is accepted.
-#[inline(always)]
-pub fn check_file(limits: Limits, bytes: &[u8]) -> Result<(), u64> {
-    let (settings, _, _, records) = parts(limits, bytes)?;
-    check_records(settings.nx, settings.ny, records)
-}
-
-/// The values of an accepted file, and the sums of its records.
-#[inline(always)]
-fn found(limits: Limits, bytes: &[u8]) -> Result<([i64; 9], Totals), u64> {
-    let (settings, count, steps, records) = parts(limits, bytes)?;
     let Settings {
         nx,
         ny,
@@ -92,32 +77,26 @@ fn found(limits: Limits, bytes: &[u8]) -> Result<([i64; 9], Totals), u64> {
         width,
         drag,
     } = settings;
-    let sums = sum_records(nx, ny, records)?;
+    check_records(nx, ny, records)?;
     let [nx, ny, count, steps, kind, width, drag] =
         [nx, ny, count, steps, kind, width, drag].map(|n| n as i64);
-    Ok(([nx, ny, gx, gy, count, steps, kind, width, drag], sums))
+    Ok([nx, ny, gx, gy, count, steps, kind, width, drag])
 }
 
 /// The length of the file at the front of these bytes, if it is accepted for the bench.
 pub fn front(bytes: &[u8; MOST_LENGTH]) -> Option<usize> {
     let [_, second] = words(bytes.first_chunk()?);
     let length = HEADER_LENGTH + RECORD_LENGTH * count_in(second);
-    check_file(Caller::Bench.limits(), bytes.get(..length)?).ok()?;
+    found(Caller::Bench.limits(), bytes.get(..length)?).ok()?;
     Some(length)
 }
 
-/// The sums of an accepted file's records.
-pub fn sums_of(file: &[u8]) -> Totals {
-    sum_accepted(&file[HEADER_LENGTH..])
-}
-
-/// Read a file: nine values, and the running totals.
+/// Read a file: nine values.
 #[inline(always)]
-pub fn read_file(caller: Caller, bytes: &[u8], values: &mut [i64; 9], totals: &mut Totals) -> u64 {
+pub fn read_file(caller: Caller, bytes: &[u8], values: &mut [i64; 9]) -> u64 {
     match found(caller.limits(), bytes) {
-        Ok((header, sums)) => {
+        Ok(header) => {
             *values = header;
-            *totals = sums;
             0
         }
         Err(refusal) => refusal,

@@ -1,12 +1,11 @@
-//! Document 01 with document 02's Papers 1 to 6 and 8 to 10 in Rust, written for speed: what the proved
+//! Document 01 with document 02's Papers 1 to 6, 8 and 9 in Rust, written for speed: what the proved
 //! engine is measured against.
 //!
 //! The functions take what those of `include/gondwize.h` take, in the same order, a slice for each
 //! pointer with its length, and answer the same numbers; those that serve both callers take the caller
-//! before. Records are unpacked once per call, as two words each, and packed without identifier and
-//! marks, which no step changes; running totals are brought up to date by sums that are taken on the way;
-//! scratch memory is on the stack and never cleared; indices that the checks have shown to be in range
-//! are not checked again.
+//! before. Records are unpacked once per call, as two
+//! words each, and packed without identifier and marks, which no step changes; scratch memory is on the
+//! stack and never cleared; indices that the checks have shown to be in range are not checked again.
 
 #![warn(missing_docs)]
 
@@ -15,7 +14,6 @@ mod caller;
 mod file;
 mod particle;
 mod rounding;
-mod running;
 mod set;
 mod settings;
 mod simulation;

@@ -5,7 +5,6 @@ use std::mem::MaybeUninit;
 use crate::caller::{Caller, Limits};
 use crate::particle::{Particle, Record, RECORD_LENGTH};
 use crate::refused;
-use crate::running::{Moving, Sums, Totals};
 use crate::update::check_lengths;
 
 /// The largest number of records.
@@ -84,25 +83,6 @@ pub fn check_records(nx: usize, ny: usize, records: &[u8]) -> Result<(), u64> {
     walk(nx, ny, records, |_, _| ())
 }
 
-/// Checks every record, unpacks it and hands it to `found`.
-#[inline(always)]
-fn unpack_each<'a>(
-    nx: usize,
-    ny: usize,
-    records: &[u8],
-    room: &'a mut Room,
-    mut found: impl FnMut(&Particle),
-) -> Result<&'a mut [Particle], u64> {
-    walk(nx, ny, records, |k, record| {
-        // SAFETY: a checked length has at most as many records as the room.
-        unsafe { room.get_unchecked_mut(k) }.write(record.particle);
-        found(&record.particle);
-    })?;
-    let count = records.len() / RECORD_LENGTH;
-    // SAFETY: the walk has written as many.
-    Ok(unsafe { room[..count].assume_init_mut() })
-}
-
 /// Checks every record and unpacks it.
 pub fn unpack<'a>(
     nx: usize,
@@ -110,29 +90,20 @@ pub fn unpack<'a>(
     records: &[u8],
     room: &'a mut Room,
 ) -> Result<&'a mut [Particle], u64> {
-    unpack_each(nx, ny, records, room, |_| ())
+    walk(nx, ny, records, |k, record| {
+        // SAFETY: a checked length has at most as many records as the room.
+        unsafe { room.get_unchecked_mut(k) }.write(record.particle);
+    })?;
+    let count = records.len() / RECORD_LENGTH;
+    // SAFETY: the walk has written as many.
+    Ok(unsafe { room[..count].assume_init_mut() })
 }
 
-/// Checks every record and unpacks it, and sums what a step changes.
-pub fn unpack_summed<'a>(
-    nx: usize,
-    ny: usize,
-    records: &[u8],
-    room: &'a mut Room,
-) -> Result<(&'a mut [Particle], Moving), u64> {
-    let mut sums = Moving::default();
-    let particles = unpack_each(nx, ny, records, room, |p| sums.add(p))?;
-    Ok((particles, sums))
-}
-
-/// Packs every particle into its record, which keeps identifier and marks, and sums what a step changes.
-pub fn pack(particles: &[Particle], records: &mut [u8]) -> Moving {
-    let mut sums = Moving::default();
+/// Packs every particle into its record, which keeps identifier and marks.
+pub fn pack(particles: &[Particle], records: &mut [u8]) {
     for (p, record) in particles.iter().zip(records.as_chunks_mut().0) {
-        sums.add(p);
         p.pack(record);
     }
-    sums
 }
 
 /// The number of records of an accepted set.
@@ -155,34 +126,30 @@ pub fn check_set(caller: Caller, nx: usize, ny: usize, records: &[u8], count: &m
     }
 }
 
-/// Checks every record and sums all of them.
-#[inline(always)]
-pub fn sum_records(nx: usize, ny: usize, records: &[u8]) -> Result<Totals, u64> {
-    let mut sums = Sums::default();
-    walk(nx, ny, records, |_, record| sums.add(&record))?;
-    Ok(sums.totals())
-}
-
-/// Sums records that were checked.
-#[inline(always)]
-pub fn sum_accepted(records: &[u8]) -> Totals {
-    let mut sums = Sums::default();
-    for record in records.as_chunks::<RECORD_LENGTH>().0 {
-        sums.add(&Record::unpack(record));
-    }
-    sums.totals()
-}
-
 /// The sums over an accepted set.
 #[inline(always)]
-fn summed(limits: Limits, nx: usize, ny: usize, records: &[u8]) -> Result<Totals, u64> {
+fn summed(limits: Limits, nx: usize, ny: usize, records: &[u8]) -> Result<[i64; 6], u64> {
     check_given(limits, nx, ny, records.len(), [])?;
-    sum_records(nx, ny, records)
+    let [mut mass, mut px, mut py, mut spin, mut motion, mut marks] = [0; 6];
+    walk(nx, ny, records, |_, record| {
+        let p = record.particle;
+        let m = i64::from(p.mass);
+        let (x, y) = (p.x, p.y);
+        let (vx, vy) = (p.vx, p.vy);
+        let turning = p.bxx * p.bxx + p.bxy * p.bxy + p.byx * p.byx + p.byy * p.byy;
+        mass += m;
+        px += m * i64::from(vx);
+        py += m * i64::from(vy);
+        spin += m * i64::from(x * vy - y * vx + p.byx - p.bxy);
+        motion += m * i64::from(1024 * (vx * vx + vy * vy) + turning);
+        marks += i64::from(record.marks);
+    })?;
+    Ok([mass, px, py, spin, motion, marks])
 }
 
 /// Totals: six values.
 #[inline(always)]
-pub fn totals(caller: Caller, nx: usize, ny: usize, records: &[u8], values: &mut Totals) -> u64 {
+pub fn totals(caller: Caller, nx: usize, ny: usize, records: &[u8], values: &mut [i64; 6]) -> u64 {
     match summed(caller.limits(), nx, ny, records) {
         Ok(sums) => {
             *values = sums;

@@ -4,8 +4,7 @@ use std::mem::MaybeUninit;
 
 use crate::caller::{Caller, Limits};
 use crate::refused;
-use crate::running::{bring_up_to_date, check_stored, Totals};
-use crate::set::{check_given, pack, unpack_summed, Room, MOST};
+use crate::set::{check_given, pack, unpack, Room, MOST};
 use crate::settings::Settings;
 use crate::spline::table;
 use crate::transfer::{gather_all, scatter_all};
@@ -20,16 +19,13 @@ fn run_set(
     mass: &mut [u64],
     px: &mut [i64],
     py: &mut [i64],
-    totals: &mut Totals,
 ) -> Result<usize, (usize, u64)> {
     let &Settings { nx, ny, .. } = settings;
     let mut rooms: [Room; 2] = [[MaybeUninit::uninit(); MOST]; 2];
     let [from, to] = &mut rooms;
-    let entry = unpack_summed(nx, ny, records, from).and_then(|(particles, before)| {
-        check_stored(totals)?;
-        Ok((particles.len(), before))
-    });
-    let (count, before) = entry.map_err(|refusal| (0, refusal))?;
+    let count = unpack(nx, ny, records, from)
+        .map_err(|refusal| (0, refusal))?
+        .len();
     let (mut from, mut to) = (&mut from[..count], &mut to[..count]);
     let table = &table();
     let mut stopped = None;
@@ -48,14 +44,12 @@ fn run_set(
     }
     if completed > 0 {
         // SAFETY: as above.
-        let after = pack(unsafe { from.assume_init_ref() }, records);
-        bring_up_to_date(totals, before, after);
+        pack(unsafe { from.assume_init_ref() }, records);
     }
     stopped.map_or(Ok(completed), |refusal| Err((completed, refusal)))
 }
 
 /// The completed steps, and the refusal if one stopped the run.
-#[allow(clippy::too_many_arguments)]
 #[inline(always)]
 fn ran(
     limits: Limits,
@@ -65,7 +59,6 @@ fn ran(
     mass: &mut [u64],
     px: &mut [i64],
     py: &mut [i64],
-    totals: &mut Totals,
 ) -> Result<usize, (usize, u64)> {
     let entry = || {
         let grids = [mass.len(), px.len(), py.len()];
@@ -78,7 +71,7 @@ fn ran(
         }
     };
     entry().map_err(|refusal| (0, refusal))?;
-    run_set(settings, steps, records, mass, px, py, totals)
+    run_set(settings, steps, records, mass, px, py)
 }
 
 /// Step.
@@ -97,10 +90,9 @@ pub fn step(
     mass: &mut [u64],
     px: &mut [i64],
     py: &mut [i64],
-    totals: &mut Totals,
 ) -> u64 {
     let settings = Settings::new(nx, ny, gx, gy, kind, width, drag);
-    match ran(caller.limits(), &settings, 1, records, mass, px, py, totals) {
+    match ran(caller.limits(), &settings, 1, records, mass, px, py) {
         Ok(_) => 0,
         Err((_, refusal)) => refusal,
     }
@@ -124,11 +116,9 @@ pub fn run(
     px: &mut [i64],
     py: &mut [i64],
     completed: &mut u64,
-    totals: &mut Totals,
 ) -> u64 {
     let settings = Settings::new(nx, ny, gx, gy, kind, width, drag);
-    let limits = caller.limits();
-    let (count, answer) = match ran(limits, &settings, steps, records, mass, px, py, totals) {
+    let (count, answer) = match ran(caller.limits(), &settings, steps, records, mass, px, py) {
         Ok(count) => (count, 0),
         Err(stopped) => stopped,
     };

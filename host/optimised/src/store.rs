@@ -2,8 +2,7 @@
 //! file and, after it, what is left of a longer one.
 
 use crate::caller::{Caller, Limits};
-use crate::file::{check_file, front, sums_of, MOST_LENGTH};
-use crate::running::Totals;
+use crate::file::{found, front, MOST_LENGTH};
 use crate::{answer, refused};
 
 const PLACES: usize = 4;
@@ -95,7 +94,7 @@ fn known(places: &[Held; PLACES], name: Name) -> Result<(usize, usize), u64> {
 fn kept(limits: Limits, store: &mut [u8], name: &[u8], file: &[u8]) -> Result<(), u64> {
     let places = look(store)?;
     let name = checked(name)?;
-    check_file(limits, file)?;
+    found(limits, file)?;
     let place = position(&places, name).or_else(|| position(&places, FREE));
     let place = place.ok_or(refused(24, 0))?;
     let (head, room) = store[PLACE_LENGTH * place..].split_at_mut(NAME_LENGTH);
@@ -112,32 +111,19 @@ pub fn keep(caller: Caller, store: &mut [u8], name: &[u8], file: &[u8]) -> u64 {
     answer(kept(caller.limits(), store, name, file))
 }
 
-fn returned(
-    store: &[u8],
-    name: &[u8],
-    buffer: &mut [u8],
-    totals: &mut Totals,
-) -> Result<usize, u64> {
+fn returned(store: &[u8], name: &[u8], buffer: &mut [u8]) -> Result<usize, u64> {
     let places = look(store)?;
     if buffer.len() < MOST_LENGTH {
         return Err(refused(1, 0));
     }
     let (start, length) = known(&places, checked(name)?)?;
-    let file = &store[start + NAME_LENGTH..][..length];
-    buffer[..length].copy_from_slice(file);
-    *totals = sums_of(file);
+    buffer[..length].copy_from_slice(&store[start + NAME_LENGTH..][..length]);
     Ok(length)
 }
 
-/// Return: the length of the file, and the running totals.
-pub fn return_to(
-    store: &[u8],
-    name: &[u8],
-    buffer: &mut [u8],
-    length: &mut u64,
-    totals: &mut Totals,
-) -> u64 {
-    match returned(store, name, buffer, totals) {
+/// Return: the length of the file.
+pub fn return_to(store: &[u8], name: &[u8], buffer: &mut [u8], length: &mut u64) -> u64 {
+    match returned(store, name, buffer) {
         Ok(found) => {
             *length = found as u64;
             0
@@ -163,7 +149,7 @@ mod tests {
     use super::{forget, keep, return_to, Caller, MOST_LENGTH, PLACES, PLACE_LENGTH};
     use reference::bath_file::pack_file;
     use reference::generator::Generator;
-    use reference::{Refusal, Settings, Size, Totals};
+    use reference::{Refusal, Settings, Size};
 
     /// The answer that the reference gives, as one number.
     fn code<T>(result: Result<T, Refusal>) -> u64 {
@@ -186,13 +172,10 @@ mod tests {
                 (forget(store, name), answer)
             }
             _ => {
-                let mut totals = [i64::MIN, 1, -2, 3, i64::MAX, -5];
-                let mut sums = Totals::from_values(totals);
-                let answer = reference::return_to(&expected.0, name, &mut expected.1, &mut sums);
+                let answer = reference::return_to(&expected.0, name, &mut expected.1);
                 let mut length = 7;
-                let found = return_to(store, name, buffer, &mut length, &mut totals);
+                let found = return_to(store, name, buffer, &mut length);
                 assert_eq!(length as usize, answer.unwrap_or(7));
-                assert_eq!(totals, sums.values());
                 (found, code(answer))
             }
         };

@@ -6,8 +6,7 @@ use std::ops::AddAssign;
 use crate::caller::{Caller, Limits};
 use crate::particle::Particle;
 use crate::rounding::rounded;
-use crate::running::{bring_up_to_date, check_stored, Totals};
-use crate::set::{check_given, last, pack, unpack, unpack_summed, Room, MOST};
+use crate::set::{check_given, last, pack, unpack, Room, MOST};
 use crate::spline::{table, Place, Table};
 use crate::update::{is_slow, MOST_NODES};
 use crate::{answer, refused};
@@ -289,27 +288,18 @@ pub fn adding_scatter(
 
 /// Gathers for a set of checked length from grids of checked lengths.
 #[inline(never)]
-fn gather_set(
-    nx: usize,
-    ny: usize,
-    records: &mut [u8],
-    ux: &[i64],
-    uy: &[i64],
-    totals: &mut Totals,
-) -> Result<(), u64> {
+fn gather_set(nx: usize, ny: usize, records: &mut [u8], ux: &[i64], uy: &[i64]) -> Result<(), u64> {
     let mut room: Room = [MaybeUninit::uninit(); MOST];
-    let (particles, before) = unpack_summed(nx, ny, records, &mut room)?;
+    let particles = unpack(nx, ny, records, &mut room)?;
     for (k, (&x, &y)) in ux.iter().zip(uy).enumerate() {
         if !is_slow(x) || !is_slow(y) {
             return Err(refused(12, k));
         }
     }
-    check_stored(totals)?;
     let mut to: Room = [MaybeUninit::uninit(); MOST];
     gather_all(particles, nx, ny, &table(), ux, uy, &mut to)?;
     // SAFETY: the gather has written as many.
-    let after = pack(unsafe { to[..particles.len()].assume_init_ref() }, records);
-    bring_up_to_date(totals, before, after);
+    pack(unsafe { to[..particles.len()].assume_init_ref() }, records);
     Ok(())
 }
 
@@ -321,10 +311,9 @@ fn gathered(
     records: &mut [u8],
     ux: &[i64],
     uy: &[i64],
-    totals: &mut Totals,
 ) -> Result<(), u64> {
     check_given(limits, nx, ny, records.len(), [ux.len(), uy.len()])?;
-    gather_set(nx, ny, records, ux, uy, totals)
+    gather_set(nx, ny, records, ux, uy)
 }
 
 /// Gather.
@@ -336,7 +325,6 @@ pub fn gather(
     records: &mut [u8],
     ux: &[i64],
     uy: &[i64],
-    totals: &mut Totals,
 ) -> u64 {
-    answer(gathered(caller.limits(), nx, ny, records, ux, uy, totals))
+    answer(gathered(caller.limits(), nx, ny, records, ux, uy))
 }

@@ -1,5 +1,5 @@
-//! The functions of both callers against the reference: every answer, every buffer and the running totals,
-//! on inputs about the page's limits, valid and damaged, and on totals that are true, others, or refused.
+//! The functions of both callers against the reference: every answer and every buffer, on inputs about
+//! the page's limits, valid and damaged.
 
 use std::collections::BTreeSet;
 
@@ -11,7 +11,7 @@ use reference::{
     adding_scatter_for, check_set_for, gather_for, keep_for, read_file_for, run_for, scatter_for,
     step_for, totals_for, update_for,
 };
-use reference::{Grid, Particle, Refusal, Settings, Size, Sums, Totals};
+use reference::{Grid, Particle, Refusal, Settings, Size, Sums};
 
 const SUMS: Sums = Sums::Nearby;
 
@@ -33,7 +33,6 @@ struct Given {
     file: Vec<u8>,
     store: Vec<u8>,
     name: &'static [u8],
-    totals: Totals,
 }
 
 /// The answer as one number, and the values that are handed out, 7 before.
@@ -65,13 +64,12 @@ fn by_reference(caller: reference::Caller, operation: usize, given: &mut Given) 
         file,
         store,
         name,
-        totals,
     } = given;
     let (settings, size) = (*settings, settings.size);
     match operation {
         0 => answer(check_set_for(caller, size, records), 1, |n| vec![n as i128]),
         1 => answer(totals_for(caller, size, records), 6, |t| {
-            t.values().map(i128::from).to_vec()
+            t.values().to_vec()
         }),
         2 => done(scatter_for(
             caller,
@@ -85,20 +83,20 @@ fn by_reference(caller: reference::Caller, operation: usize, given: &mut Given) 
             done(adding_scatter_for(caller, SUMS, size, records, grid))
         }
         4 => done(update_for(caller, settings, &mut grid.buffers())),
-        5 => {
-            let (x, y) = (&grid.x, &grid.y);
-            done(gather_for(caller, SUMS, size, records, x, y, totals))
-        }
-        6 => {
-            let grid = &mut grid.buffers();
-            done(step_for(caller, SUMS, settings, records, grid, totals))
-        }
+        5 => done(gather_for(caller, SUMS, size, records, &grid.x, &grid.y)),
+        6 => done(step_for(
+            caller,
+            SUMS,
+            settings,
+            records,
+            &mut grid.buffers(),
+        )),
         7 => {
             let grid = &mut grid.buffers();
-            let ran = run_for(caller, SUMS, settings, *steps, records, grid, totals);
+            let ran = run_for(caller, SUMS, settings, *steps, records, grid);
             (code(ran.refusal), vec![ran.completed as i64])
         }
-        8 => answer(read_file_for(caller, file, totals), 9, |header| {
+        8 => answer(read_file_for(caller, file), 9, |header| {
             header.values().to_vec()
         }),
         _ => done(keep_for(caller, store, name, file)),
@@ -115,15 +113,13 @@ fn by_functions(caller: optimised::Caller, operation: usize, given: &mut Given) 
         file,
         store,
         name,
-        totals,
     } = given;
-    let mut stored = totals.values();
     let number = |n: i128| n as usize;
     let (nx, ny) = (number(settings.size.nx), number(settings.size.ny));
     let (gx, gy) = (settings.gx as i64, settings.gy as i64);
     let (kind, width) = (number(settings.edge.kind), number(settings.edge.width));
     let (drag, steps) = (number(settings.drag), number(*steps));
-    let answer = match operation {
+    match operation {
         0 => {
             let mut count = 7;
             let answer = optimised::check_set(caller, nx, ny, records, &mut count);
@@ -146,25 +142,10 @@ fn by_functions(caller: optimised::Caller, operation: usize, given: &mut Given) 
             optimised::update(caller, nx, ny, gx, gy, kind, width, drag, mass, x, y),
             vec![],
         ),
-        5 => (
-            optimised::gather(caller, nx, ny, records, x, y, &mut stored),
-            vec![],
-        ),
+        5 => (optimised::gather(caller, nx, ny, records, x, y), vec![]),
         6 => (
             optimised::step(
-                caller,
-                nx,
-                ny,
-                gx,
-                gy,
-                kind,
-                width,
-                drag,
-                records,
-                mass,
-                x,
-                y,
-                &mut stored,
+                caller, nx, ny, gx, gy, kind, width, drag, records, mass, x, y,
             ),
             vec![],
         ),
@@ -185,19 +166,16 @@ fn by_functions(caller: optimised::Caller, operation: usize, given: &mut Given) 
                 x,
                 y,
                 &mut completed,
-                &mut stored,
             );
             (answer, vec![completed as i64])
         }
         8 => {
             let mut values = [7; 9];
-            let answer = optimised::read_file(caller, file, &mut values, &mut stored);
+            let answer = optimised::read_file(caller, file, &mut values);
             (answer, values.to_vec())
         }
         _ => (optimised::keep(caller, store, name, file), vec![]),
-    };
-    *totals = Totals::from_values(stored);
-    answer
+    }
 }
 
 /// A bath about the page's limits, and now and then beyond others.
@@ -238,7 +216,6 @@ fn random(numbers: &mut Generator, stores: &[Vec<u8>]) -> Given {
         }
     }
     let [records, file] = bytes;
-    let totals = numbers.stored_totals(&particles);
     let mut grid = Grid::filled(size.nodes(), 9, numbers.between(-900, 900) as i64, 77);
     match numbers.between(0, 30) {
         0 => grid.mass.push(1),
@@ -256,7 +233,6 @@ fn random(numbers: &mut Generator, stores: &[Vec<u8>]) -> Given {
         file,
         store: stores[numbers.between(0, stores.len() as i128 - 1) as usize].clone(),
         name: [&b"BATH"[..], b"A", b"bath"][numbers.between(0, 2) as usize],
-        totals,
     }
 }
 
@@ -303,9 +279,7 @@ fn both_callers_as_the_reference() {
         for operation in 0..10 {
             // Update has no set.
             let three = caller == reference::Caller::Page && operation != 4;
-            let lent = (5..=7).contains(&operation);
-            let told = [three.then_some(3), lent.then_some(25)];
-            for number in [0, 2].into_iter().chain(told.into_iter().flatten()) {
+            for number in [0, 2].into_iter().chain(three.then_some(3)) {
                 let what = (caller, operation, number);
                 assert!(seen.contains(&what), "{what:?}");
             }

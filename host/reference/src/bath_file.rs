@@ -6,7 +6,7 @@ use crate::edge::Edge;
 use crate::grid::{Settings, Size};
 use crate::limits::{HEADER_LENGTH, MAX_STEPS, RECORD_LENGTH};
 use crate::particle::Particle;
-use crate::particle_set::{check_count, pack_records, walk, Totals};
+use crate::particle_set::{check_count, pack_records, walk};
 use crate::refusal::{require, Refusal, LENGTH, SPARE, STEPS};
 
 /// The fields of the header in their order.
@@ -106,22 +106,14 @@ pub(crate) fn told_length(header: &[u8; HEADER_LENGTH]) -> usize {
     file_length(count)
 }
 
-/// Reads a file: the header's values, and the running totals are set to the true sums. Refused: 1
-/// shorter than 11; 2; 10; 18; 3; 17; 16 for either spare field; 1 length not 11 + 15·count; then the
-/// set.
-pub fn read_file(file: &[u8], totals: &mut Totals) -> Result<Header, Refusal> {
-    read_file_for(Caller::Bench, file, totals)
+/// Reads a file: the header's values. Refused: 1 shorter than 11; 2; 10; 18; 3; 17; 16 for either
+/// spare field; 1 length not 11 + 15·count; then the set.
+pub fn read_file(file: &[u8]) -> Result<Header, Refusal> {
+    read_file_for(Caller::Bench, file)
 }
 
 /// Reads a caller's file.
-pub fn read_file_for(caller: Caller, file: &[u8], totals: &mut Totals) -> Result<Header, Refusal> {
-    let (header, particles) = contents(caller, file)?;
-    *totals = Totals::of(&particles);
-    Ok(header)
-}
-
-/// The header and the particles of a caller's file. Refused as read a file is.
-pub(crate) fn contents(caller: Caller, file: &[u8]) -> Result<(Header, Vec<Particle>), Refusal> {
+pub fn read_file_for(caller: Caller, file: &[u8]) -> Result<Header, Refusal> {
     require(file.len() >= HEADER_LENGTH, LENGTH, 0)?;
     let [nx, ny, gx, gy, count, steps, first, kind, width, drag, last] =
         unpack(&LAYOUT, &file[..HEADER_LENGTH]);
@@ -129,8 +121,8 @@ pub(crate) fn contents(caller: Caller, file: &[u8]) -> Result<(Header, Vec<Parti
     header.check(caller.limits())?;
     require([first, last] == [0, 0], SPARE, 0)?;
     require(file.len() == file_length(count), LENGTH, 0)?;
-    let particles = walk(header.settings.size, file, HEADER_LENGTH)?;
-    Ok((header, particles))
+    walk(header.settings.size, file, HEADER_LENGTH)?;
+    Ok(header)
 }
 
 /// Writes a header into the buffer, spare bits zero. Refused, by the bench's limits whoever calls: 1

@@ -102,7 +102,7 @@ impl Ledger {
         self.completed += 1;
         for (axis, g) in [gx, gy].into_iter().enumerate() {
             self.shares[axis] +=
-                GRAVITY_UNIT * i128::from(self.start.mass) * g + NODE_UNIT * changes.momentum[axis];
+                GRAVITY_UNIT * self.start.mass * g + NODE_UNIT * changes.momentum[axis];
         }
         for p in before {
             self.torques += GRAVITY_UNIT * p.mass * (p.x * gy - p.y * gx);
@@ -117,19 +117,18 @@ impl Ledger {
             return Err("identifiers, masses or marks changed".into());
         }
         let (start, end) = (self.start, Totals::of(after));
-        let allowance = ROUNDING * self.completed * i128::from(start.mass);
-        let changed = |before: i64, after: i64| UNIT * i128::from(after - before);
+        let allowance = ROUNDING * self.completed * start.mass;
         let errors = [
-            changed(start.px, end.px) - self.shares[0],
-            changed(start.py, end.py) - self.shares[1],
+            UNIT * (end.px - start.px) - self.shares[0],
+            UNIT * (end.py - start.py) - self.shares[1],
         ];
         if errors.iter().any(|error| error.abs() > allowance) {
             return Err(format!(
                 "momentum off by {errors:?}/2^35, {allowance}/2^35 allowed"
             ));
         }
-        let error = changed(start.angular_momentum, end.angular_momentum) - self.torques;
-        let allowance = UNIT * self.completed * i128::from(start.mass) + ROUNDING * self.places;
+        let error = UNIT * (end.angular_momentum - start.angular_momentum) - self.torques;
+        let allowance = UNIT * self.completed * start.mass + ROUNDING * self.places;
         if error.abs() > allowance {
             return Err(format!(
                 "angular momentum off by {error}/2^35, {allowance}/2^35 allowed"

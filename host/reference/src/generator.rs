@@ -3,9 +3,8 @@
 use crate::edge::Edge;
 use crate::grid::Size;
 use crate::limits::{MAX_B, MAX_MASS, MAX_TOTAL_MASS, MAX_VELOCITY, MIN_PLACE, SPACING};
-use crate::limits::{MAX_PRESENT_MOMENTUM, MAX_STORED_TOTAL, RECORD_LENGTH};
+use crate::limits::{MAX_PRESENT_MOMENTUM, RECORD_LENGTH};
 use crate::particle::Particle;
-use crate::particle_set::Totals;
 
 /// A stream of numbers that its seed decides.
 #[derive(Clone, Debug)]
@@ -97,26 +96,6 @@ impl Generator {
             self.one_of(&[-most, momentum, momentum, most]) as i64
         };
         (mass as u64, momentum(), momentum())
-    }
-
-    /// Running totals that are true of the particles, or others that are accepted, ends included, or
-    /// such of which one is refused.
-    pub fn stored_totals(&mut self, particles: &[Particle]) -> Totals {
-        if self.once_in(3) {
-            return Totals::of(particles);
-        }
-        const MOST: i128 = MAX_STORED_TOTAL;
-        const LEAST: [i128; 6] = [0, -MOST, -MOST, -MOST, 0, 0];
-        let mut totals = LEAST.map(|least| {
-            let between = self.between(least, MOST);
-            self.one_of(&[least, between, between, MOST]) as i64
-        });
-        if self.once_in(3) {
-            let at = self.between(0, 5) as usize;
-            let beyond = [i64::MIN.into(), LEAST[at] - 1, MOST + 1, i64::MAX.into()];
-            totals[at] = self.one_of(&beyond) as i64;
-        }
-        Totals::from_values(totals)
     }
 }
 

@@ -1,5 +1,5 @@
 //! Two-dimensional APIC with the quadratic B-spline in whole numbers: the whole of document 01 with
-//! document 02's Papers 1, 3 to 6 and 8 to 10, written from the documents, as literal sums over all
+//! document 02's Papers 1, 3 to 6, 8 and 9, written from the documents, as literal sums over all
 //! particles and all nodes.
 //!
 //! | module | operations |
@@ -22,9 +22,6 @@
 //!
 //! An operation that checks a size, a set or a file is the bench's under its own name; with `_for` after
 //! it, that of the caller that it is given.
-//!
-//! Read a file, return, gather, step and run are lent a running totals record, [`Totals`], and bring it
-//! up to date from the true sums of the records before and after.
 
 #![forbid(unsafe_code)]
 #![warn(missing_docs)]

@@ -60,8 +60,6 @@ pub const MAX_NODE_MASS: i128 = 1 << 43;
 pub const MAX_PRESENT_MOMENTUM: i128 = 457_536;
 /// Greatest size of a node velocity on one axis, in 256ths.
 pub const MAX_NODE_VELOCITY: i128 = 131_072;
-/// Greatest size of a stored total.
-pub const MAX_STORED_TOTAL: i128 = 1 << 43;
 
 /// D of source document 003 for this spline: a quarter of the squared spacing.
 pub const D: i128 = SPACING * SPACING / 4;
@@ -69,10 +67,3 @@ pub const D: i128 = SPACING * SPACING / 4;
 pub const NODE_VELOCITY_UNIT: i128 = 256;
 /// Total of the nine weights of a particle.
 pub const WEIGHT_TOTAL: i128 = 1 << 26;
-
-/// A number that the limits keep within 64 bits.
-pub(crate) fn fit<T: TryFrom<i128>>(number: i128) -> T {
-    T::try_from(number)
-        .ok()
-        .expect("within 64 bits by the limits")
-}

@@ -2,10 +2,9 @@
 
 use crate::caller::{Caller, Limits};
 use crate::grid::{check_node_buffers, Size};
-use crate::limits::{fit, D, MAX_SET_LENGTH, MAX_STORED_TOTAL, MAX_TOTAL_MASS, RECORD_LENGTH};
+use crate::limits::{D, MAX_SET_LENGTH, MAX_TOTAL_MASS, RECORD_LENGTH};
 use crate::particle::{read_record, Particle};
-use crate::refusal::{require, within, Refusal};
-use crate::refusal::{COUNT, IDENTIFIER, LENGTH, PLACE, STORED_TOTAL, TOTAL_MASS};
+use crate::refusal::{require, Refusal, COUNT, IDENTIFIER, LENGTH, PLACE, TOTAL_MASS};
 
 /// Refuses 1 where the length is not a multiple of 15 or above 61,440.
 fn check_length(records: &[u8]) -> Result<(), Refusal> {
@@ -76,27 +75,27 @@ pub fn check_set_for(caller: Caller, size: Size, records: &[u8]) -> Result<usize
     Ok(particles_for(caller, size, records)?.len())
 }
 
-/// The sums over a set, or a running totals record, which may hold anything.
+/// The sums over a set.
 #[derive(Clone, Copy, Debug, Default, PartialEq, Eq, Hash)]
 pub struct Totals {
     /// Sum of m.
-    pub mass: i64,
+    pub mass: i128,
     /// Sum of m·vx.
-    pub px: i64,
+    pub px: i128,
     /// Sum of m·vy.
-    pub py: i64,
+    pub py: i128,
     /// Angular momentum about node (0, 0), affine part included; document 01's spin.
-    pub angular_momentum: i64,
+    pub angular_momentum: i128,
     /// Sum of m·(1024·(vx² + vy²) + Bxx² + Bxy² + Byx² + Byy²), document 02's motion.
-    pub motion: i64,
+    pub motion: i128,
     /// Sum of marks.
-    pub marks: i64,
+    pub marks: i128,
 }
 
 impl Totals {
     /// The sums over particles.
     pub fn of(particles: &[Particle]) -> Self {
-        let sum = |share: fn(&Particle) -> i128| -> i64 { fit(particles.iter().map(share).sum()) };
+        let sum = |share: fn(&Particle) -> i128| -> i128 { particles.iter().map(share).sum() };
         Totals {
             mass: sum(|p| p.mass),
             px: sum(|p| p.mass * p.vx),
@@ -111,20 +110,8 @@ impl Totals {
         }
     }
 
-    /// The totals with these values, in the order in which they are handed out.
-    pub fn from_values([mass, px, py, angular_momentum, motion, marks]: [i64; 6]) -> Self {
-        Totals {
-            mass,
-            px,
-            py,
-            angular_momentum,
-            motion,
-            marks,
-        }
-    }
-
     /// The sums in the order in which they are handed out and printed.
-    pub fn values(&self) -> [i64; 6] {
+    pub fn values(&self) -> [i128; 6] {
         let Totals {
             mass,
             px,
@@ -134,22 +121,6 @@ impl Totals {
             marks,
         } = *self;
         [mass, px, py, angular_momentum, motion, marks]
-    }
-
-    /// Refuses 25.
-    pub(crate) fn check_stored(&self) -> Result<(), Refusal> {
-        let small = |&total: &i64| within(total.into(), MAX_STORED_TOTAL);
-        let counts = [self.mass, self.motion, self.marks];
-        let accepted = self.values().iter().all(small) && counts.iter().all(|&total| total >= 0);
-        require(accepted, STORED_TOTAL, 0)
-    }
-
-    /// Changes each stored total as the records have changed, from these true sums to those. Within 64
-    /// bits: a stored total is at most 2^43 in size by 25, and a true one is less.
-    pub(crate) fn change(&mut self, before: Totals, after: Totals) {
-        let (stored, before, after) = (self.values(), before.values(), after.values());
-        let changed = std::array::from_fn(|k| stored[k] + (after[k] - before[k]));
-        *self = Totals::from_values(changed);
     }
 }
 
@@ -200,7 +171,7 @@ mod tests {
                 }
             }
             let motion = Totals::of(&particles[..k]).motion;
-            assert_eq!(WEIGHT_TOTAL * D * i128::from(motion), carried);
+            assert_eq!(WEIGHT_TOTAL * D * motion, carried);
         }
     }
 }

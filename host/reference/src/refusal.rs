@@ -49,8 +49,6 @@ pub const NAME: u32 = 22;
 pub const NOT_HELD: u32 = 23;
 /// A store that holds four other names.
 pub const FULL_STORE: u32 = 24;
-/// A stored total too large in size, or a stored mass, motion or marks below 0.
-pub const STORED_TOTAL: u32 = 25;
 
 /// What was refused: the number in document 01 or 02, and the record or node counted from 0, or 0 where
 /// there is none.

@@ -18,23 +18,20 @@ pub fn program(input: &[u8]) -> String {
 
 /// The program's text by the given sums.
 pub fn program_by(sums: Sums, input: &[u8]) -> String {
-    let mut totals = Totals::default();
-    match read_file(input, &mut totals) {
+    match read_file(input) {
         Err(Refusal { number, place }) => format!("refused {number} at {place}\n"),
-        Ok(header) => run_report(sums, header, input[HEADER_LENGTH..].to_vec(), totals),
+        Ok(header) => run_report(sums, header, input[HEADER_LENGTH..].to_vec()),
     }
 }
 
-/// Runs an accepted file's records, from these true totals on, and reports.
-fn run_report(sums: Sums, header: Header, mut records: Vec<u8>, mut totals: Totals) -> String {
+/// Runs an accepted file's records and reports.
+fn run_report(sums: Sums, header: Header, mut records: Vec<u8>) -> String {
     let Header {
         settings, steps, ..
     } = header;
     let mut grid = Grid::zero(settings.size.nodes());
-    let buffers = &mut grid.buffers();
-    let answer = run_by(sums, settings, steps, &mut records, buffers, &mut totals);
+    let answer = run_by(sums, settings, steps, &mut records, &mut grid.buffers());
     let particles = particles(settings.size, &records).expect("a run leaves an accepted set");
-    assert_eq!(totals, Totals::of(&particles), "true totals stay true");
     report(answer, &particles)
 }
 

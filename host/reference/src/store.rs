@@ -5,11 +5,10 @@
 
 use std::collections::BTreeMap;
 
-use crate::bath_file::{contents, read_file, told_length};
+use crate::bath_file::{read_file, read_file_for, told_length};
 use crate::caller::Caller;
 use crate::limits::{MAX_FILE_LENGTH, NAME_LENGTH};
 use crate::limits::{STORE_LENGTH, STORE_PLACES, STORE_PLACE_LENGTH};
-use crate::particle_set::Totals;
 use crate::refusal::{require, Refusal, FULL_STORE, LENGTH, NAME, NOT_HELD};
 
 /// A bath of a store: the place where it stands, and its file.
@@ -84,7 +83,7 @@ fn bath(place: &[u8]) -> Option<(Vec<u8>, Vec<u8>)> {
     let length = told_length(room.first_chunk()?);
     let (file, after_file) = room.split_at_checked(length)?;
     let formed = is_name(name) && is_zero(after_name) && is_zero(after_file);
-    (formed && contents(Caller::Bench, file).is_ok()).then(|| (name.to_vec(), file.to_vec()))
+    (formed && read_file(file).is_ok()).then(|| (name.to_vec(), file.to_vec()))
 }
 
 /// Keeps a bath under a name, in the place of the one before or else in the lowest that is free.
@@ -98,27 +97,20 @@ pub fn keep(store: &mut [u8], name: &[u8], file: &[u8]) -> Result<(), Refusal> {
 pub fn keep_for(caller: Caller, store: &mut [u8], name: &[u8], file: &[u8]) -> Result<(), Refusal> {
     let mut held = Store::read(store)?;
     require(is_name(name), NAME, 0)?;
-    contents(caller, file)?;
+    read_file_for(caller, file)?;
     let place = held.place_for(name).ok_or(Refusal::at(FULL_STORE, 0))?;
     held.baths.insert(name.to_vec(), (place, file.to_vec()));
     store.copy_from_slice(&held.write());
     Ok(())
 }
 
-/// Returns to a bath: its file stands at the buffer's front, its length is answered, and the running
-/// totals are set to the true sums. Refused: 1 where the store is not of its length and form; 1 for a
-/// buffer shorter than the longest file; 22; 23.
-pub fn return_to(
-    store: &[u8],
-    name: &[u8],
-    buffer: &mut [u8],
-    totals: &mut Totals,
-) -> Result<usize, Refusal> {
+/// Returns to a bath: its file stands at the buffer's front, and its length is answered. Refused: 1
+/// where the store is not of its length and form; 1 for a buffer shorter than the longest file; 22; 23.
+pub fn return_to(store: &[u8], name: &[u8], buffer: &mut [u8]) -> Result<usize, Refusal> {
     let held = Store::read(store)?;
     require(buffer.len() >= MAX_FILE_LENGTH, LENGTH, 0)?;
     require(is_name(name), NAME, 0)?;
     let file = held.held(name).ok_or(Refusal::at(NOT_HELD, 0))?;
-    read_file(file, totals).expect("a store holds files that the bench accepts");
     buffer[..file.len()].copy_from_slice(file);
     Ok(file.len())
 }

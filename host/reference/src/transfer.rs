@@ -6,11 +6,11 @@ use std::ops::Range;
 use crate::caller::Caller;
 use crate::grid::{check_node_buffers, GridBuffers, Settings, Size};
 use crate::limits::{
-    fit, D, DRAG_UNIT, MAX_B, MAX_NODE_MASS, MAX_NODE_VELOCITY, MAX_PRESENT_MOMENTUM, MAX_VELOCITY,
+    D, DRAG_UNIT, MAX_B, MAX_NODE_MASS, MAX_NODE_VELOCITY, MAX_PRESENT_MOMENTUM, MAX_VELOCITY,
     NODE_VELOCITY_UNIT, SPACING, WEIGHT_TOTAL,
 };
 use crate::particle::Particle;
-use crate::particle_set::{check_given, pack_records, walk, Totals};
+use crate::particle_set::{check_given, pack_records, walk};
 use crate::refusal::{
     require, within, Refusal, ADDED_MASS, NEW_AFFINE, NEW_PLACE, NEW_VELOCITY, NODE_MASS,
     NODE_VELOCITY, PRESENT_NODE,
@@ -99,6 +99,13 @@ fn add_nearby(size: Size, particle: &Particle, nodes: &mut [Node]) {
             nodes[size.index(i, j)].add(particle, i, j);
         }
     }
+}
+
+/// A number that document 01's limits keep within 64 bits.
+fn fit<T: TryFrom<i128>>(number: i128) -> T {
+    T::try_from(number)
+        .ok()
+        .expect("within 64 bits by the limits")
 }
 
 /// The set's nodes for this grid. Refused: 2; 1, also for the grid buffers; 3; then the set.
@@ -317,17 +324,10 @@ fn check_gathered(size: Size, particle: &Particle, place: usize) -> Result<(), R
     require(size.holds(particle.x, particle.y), NEW_PLACE, place)
 }
 
-/// Gather: the records then hold the moved particles, and the running totals have changed as the true
-/// ones have. Refused: 2; 1, also for the velocity buffers; 3; the set; for each node 12; 25; for each
-/// record 13, 14, 15.
-pub fn gather(
-    size: Size,
-    records: &mut [u8],
-    x: &[i64],
-    y: &[i64],
-    totals: &mut Totals,
-) -> Result<(), Refusal> {
-    gather_by(Sums::Literal, size, records, x, y, totals)
+/// Gather: the records then hold the moved particles. Refused: 2; 1, also for the velocity
+/// buffers; 3; the set; for each node 12; for each record 13, 14, 15.
+pub fn gather(size: Size, records: &mut [u8], x: &[i64], y: &[i64]) -> Result<(), Refusal> {
+    gather_by(Sums::Literal, size, records, x, y)
 }
 
 /// Gather by the given sums.
@@ -337,9 +337,8 @@ pub fn gather_by(
     records: &mut [u8],
     x: &[i64],
     y: &[i64],
-    totals: &mut Totals,
 ) -> Result<(), Refusal> {
-    gather_for(Caller::Bench, sums, size, records, x, y, totals)
+    gather_for(Caller::Bench, sums, size, records, x, y)
 }
 
 /// A caller's gather.
@@ -350,13 +349,11 @@ pub fn gather_for(
     records: &mut [u8],
     x: &[i64],
     y: &[i64],
-    totals: &mut Totals,
 ) -> Result<(), Refusal> {
     check_given(caller.limits(), size, records, &[x.len(), y.len()])?;
     let particles = walk(size, records, 0)?;
     let field = VelocityField { size, x, y };
     field.check()?;
-    totals.check_stored()?;
     let mut after = Vec::new();
     for (place, particle) in particles.iter().enumerate() {
         let particle = field.gathered(sums, particle);
@@ -364,6 +361,5 @@ pub fn gather_for(
         after.push(particle);
     }
     records.copy_from_slice(&pack_records(&after));
-    totals.change(Totals::of(&particles), Totals::of(&after));
     Ok(())
 }

@@ -13,8 +13,7 @@ use reference::{
     step_for, totals_for, update_for,
 };
 use reference::{forget, keep, read_file, return_to};
-use reference::{Caller, Edge, Grid, Header, Particle, Refusal, Settings, Size, Store};
-use reference::{Sums, Totals};
+use reference::{Caller, Edge, Grid, Header, Particle, Refusal, Settings, Size, Store, Sums};
 
 /// What an operation is given, and then what it leaves; each takes its part.
 #[derive(Clone, Debug, PartialEq)]
@@ -26,7 +25,6 @@ struct Given {
     file: Vec<u8>,
     store: Vec<u8>,
     name: Vec<u8>,
-    totals: Totals,
 }
 
 impl Given {
@@ -40,7 +38,6 @@ impl Given {
             file: pack_file(settings, steps, particles),
             store: vec![0; STORE_LENGTH],
             name: b"BATH".to_vec(),
-            totals: Totals::from_values([1 << 43, -7, 90, -400, 5, 66]),
         }
     }
 
@@ -75,7 +72,7 @@ const ON_SETS: [(&str, Call); 7] = [
     }),
     ("totals", |caller, given| {
         let found = totals_for(caller, given.settings.size, &given.records);
-        answer(found, |totals| totals.values().map(i128::from).to_vec())
+        answer(found, |totals| totals.values().to_vec())
     }),
     ("scatter", |caller, given| {
         let (size, grid) = (given.settings.size, &mut given.grid.buffers());
@@ -87,18 +84,15 @@ const ON_SETS: [(&str, Call); 7] = [
     }),
     ("gather", |caller, given| {
         let (size, Grid { x, y, .. }) = (given.settings.size, &given.grid);
-        let (records, totals) = (&mut given.records, &mut given.totals);
-        done(gather_for(caller, SUMS, size, records, x, y, totals))
+        done(gather_for(caller, SUMS, size, &mut given.records, x, y))
     }),
     ("step", |caller, given| {
         let (records, grid) = (&mut given.records, &mut given.grid.buffers());
-        let (settings, totals) = (given.settings, &mut given.totals);
-        done(step_for(caller, SUMS, settings, records, grid, totals))
+        done(step_for(caller, SUMS, given.settings, records, grid))
     }),
     ("run", |caller, given| {
         let (records, grid) = (&mut given.records, &mut given.grid.buffers());
-        let (settings, totals) = (given.settings, &mut given.totals);
-        let ran = run_for(caller, SUMS, settings, given.steps, records, grid, totals);
+        let ran = run_for(caller, SUMS, given.settings, given.steps, records, grid);
         (vec![ran.completed as i128], ran.refusal)
     }),
 ];
@@ -114,7 +108,7 @@ const UPDATE: (&str, Call) = ("update", |caller, given| {
 /// The operations on a file.
 const ON_FILES: [(&str, Call); 2] = [
     ("read a file", |caller, given| {
-        let found = read_file_for(caller, &given.file, &mut given.totals);
+        let found = read_file_for(caller, &given.file);
         answer(found, |header| header.values().to_vec())
     }),
     ("keep", |caller, given| {
@@ -265,11 +259,11 @@ fn change_first(given: &mut Given, change: fn(&mut Particle)) {
     given.records[..RECORD_LENGTH].copy_from_slice(&first.pack());
 }
 
-/// 3 comes before gravity, edge, drag, steps, the set, the nodes and the stored totals.
+/// 3 comes before gravity, edge, drag, steps, the set and the nodes.
 #[test]
 fn three_before_what_follows() {
     type Change = fn(&mut Given);
-    let changes: [(u32, Change); 15] = [
+    let changes: [(u32, Change); 14] = [
         (10, |given| given.settings.gx = 4097),
         (10, |given| given.settings.gy = -4097),
         (18, |given| given.settings.edge = Edge::new(3, 1)),
@@ -288,7 +282,6 @@ fn three_before_what_follows() {
         (20, |given| given.grid.mass[3] = (1 << 43) + 1),
         (21, |given| given.grid.mass[6] = 1 << 43),
         (12, |given| given.grid.x[19] = 131_073),
-        (25, |given| given.totals.motion = -1),
     ];
     let mut seen: BTreeMap<&str, Vec<u32>> = BTreeMap::new();
     for (number, change) in changes {
@@ -310,9 +303,9 @@ fn three_before_what_follows() {
         ("totals", &[4, 5, 6, 7, 8, 9]),
         ("scatter", &[4, 5, 6, 7, 8, 9]),
         ("adding scatter", &[4, 5, 6, 7, 8, 9, 20, 21]),
-        ("gather", &[4, 5, 6, 7, 8, 9, 12, 25]),
-        ("step", &[10, 10, 18, 19, 4, 5, 6, 7, 8, 9, 25]),
-        ("run", &[10, 10, 18, 19, 17, 4, 5, 6, 7, 8, 9, 25]),
+        ("gather", &[4, 5, 6, 7, 8, 9, 12]),
+        ("step", &[10, 10, 18, 19, 4, 5, 6, 7, 8, 9]),
+        ("run", &[10, 10, 18, 19, 17, 4, 5, 6, 7, 8, 9]),
     ] {
         assert_eq!(seen[name], numbers, "{name}");
     }
@@ -450,8 +443,7 @@ fn the_order_of_keep_for_the_page() {
 fn a_store_with_a_bath_of_the_bench() {
     let (large, wide) = (bath(48, 4, 4096).file, bath(17, 16, 0).file);
     for held in [&large, &wide] {
-        let totals = &mut Totals::default();
-        assert!(read_file_for(Caller::Page, held, totals).is_err());
+        assert!(read_file_for(Caller::Page, held).is_err());
         let before = store(&[(b"BENCH", held.clone())]);
         let page = bath(16, 15, 512).file;
         let (mut by_page, mut by_bench) = (before.clone(), before.clone());
@@ -467,12 +459,10 @@ fn a_store_with_a_bath_of_the_bench() {
             Ok(())
         );
         let mut buffer = vec![0x5A; HEADER_LENGTH + MAX_SET_LENGTH];
-        let returned = return_to(&by_page, b"BENCH", &mut buffer, totals);
-        let length = returned.expect("a name that is held");
+        let length = return_to(&by_page, b"BENCH", &mut buffer).expect("a name that is held");
         assert_eq!(&buffer[..length], page);
         assert_eq!(forget(&mut by_page, b"BENCH"), Ok(()));
-        let read = read_file_for(Caller::Page, &page, &mut Totals::default());
-        assert_eq!(read_file(&page, totals), read);
+        assert_eq!(read_file(&page), read_file_for(Caller::Page, &page));
     }
 }
 
@@ -527,7 +517,6 @@ fn random(numbers: &mut Generator, sizes: &[i128], counts: &[i128]) -> Given {
             _ => given.grid.mass.push(1),
         }
     }
-    given.totals = numbers.stored_totals(&particles);
     if numbers.once_in(8) {
         given.name = b"bath".to_vec();
     }

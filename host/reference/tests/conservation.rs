@@ -61,12 +61,9 @@ fn gained(particles: &[Particle], px: i128, py: i128, spin: i128) -> Vec<Particl
     first.vy += py;
     first.byx += spin - (first.x * py - first.y * px);
     let (old, new) = (Totals::of(particles), Totals::of(&after));
-    let found = [
-        new.px - old.px,
-        new.py - old.py,
-        new.angular_momentum - old.angular_momentum,
-    ];
-    assert_eq!(found.map(i128::from), [px, py, spin]);
+    let found = (new.px - old.px, new.py - old.py);
+    assert_eq!(found, (px, py));
+    assert_eq!(new.angular_momentum - old.angular_momentum, spin);
     after
 }
 

@@ -1,15 +1,12 @@
 //! Drag and rim of an update: every node of a grid, drawn; drag's rounding; the velocity that 12 looks
 //! at; and that open edges without drag change nothing.
 
-mod true_totals;
-
 use reference::edge::{OPEN, SLIP, STICKY};
 use reference::generator::Generator;
 use reference::particle_set::{pack_records, particles};
 use reference::rounding::round_to_nearest;
 use reference::transfer::after_drag;
-use reference::{update, Edge, Grid, Particle, Refusal, Settings, Size};
-use true_totals::run;
+use reference::{run, update, Edge, Grid, Particle, Refusal, Settings, Size};
 
 /// The rims of grids drawn row by row from j = 0 up: a node keeps its velocity (`.`), loses it on one
 /// axis (`x`, `y`) or on both (`o`).

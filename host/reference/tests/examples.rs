@@ -1,12 +1,9 @@
 //! Document 01's examples, starred and not, with document 02's rounding; the printed one with its header,
 //! motion and marks.
 
-mod true_totals;
-
 use reference::particle_set::{pack_records, particles};
-use reference::{check_set, program, scatter, totals, update, weights};
+use reference::{check_set, program, scatter, step, totals, update, weights};
 use reference::{Grid, Particle, Refusal, Settings, Size, Totals};
-use true_totals::step;
 
 const SMALL: Size = Size { nx: 4, ny: 4 };
 

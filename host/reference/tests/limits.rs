@@ -1,13 +1,10 @@
-//! Every limit at its edge and one beyond; those of stored totals are in `running_totals`.
-
-mod true_totals;
+//! Every limit at its edge and one beyond.
 
 use reference::limits::{HEADER_LENGTH, MAX_SET_LENGTH, RECORD_LENGTH};
 use reference::particle_set::pack_records;
-use reference::{adding_scatter, check_set, program, read_record, scatter, update};
-use reference::{write_header, write_record};
+use reference::{adding_scatter, check_set, gather, program, read_file, read_record, run, scatter};
+use reference::{step, update, write_header, write_record};
 use reference::{Edge, Grid, Header, Particle, Refusal, RunAnswer, Settings, Size};
-use true_totals::{gather, read_file, run, step};
 
 const SMALL: Size = Size { nx: 4, ny: 4 };
 

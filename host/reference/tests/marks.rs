@@ -1,14 +1,12 @@
 //! Marks: every number of 8 bits, written and read, summed, and left by every call; what else a call does
 //! is the same whatever they are.
 
-mod true_totals;
-
 use reference::generator::Generator;
 use reference::limits::{HEADER_LENGTH, RECORD_LENGTH};
 use reference::particle_set::{pack_records, particles};
-use reference::{adding_scatter, check_set, program, read_record, scatter, totals, write_record};
+use reference::{adding_scatter, check_set, gather, program, read_file, read_record, run, scatter};
+use reference::{step, totals, write_record};
 use reference::{Edge, Grid, Header, Particle, Refusal, RunAnswer, Settings, Size};
-use true_totals::{gather, read_file, run, step};
 
 const SIZE: Size = Size { nx: 7, ny: 9 };
 

@@ -5,7 +5,7 @@ use reference::limits::{HEADER_LENGTH, RECORD_LENGTH};
 use reference::particle_set::pack_records;
 use reference::{adding_scatter, check_set, gather, read_file, read_record, run, scatter, step};
 use reference::{totals, update, write_header, write_record};
-use reference::{Edge, Grid, Header, Particle, Refusal, Settings, Size, Totals};
+use reference::{Edge, Grid, Header, Particle, Refusal, Settings, Size};
 
 /// Everything that an operation may be given.
 #[derive(Clone, Debug, PartialEq)]
@@ -17,16 +17,12 @@ struct Call {
     particles: Vec<Particle>,
     surplus_bytes: usize,
     grid: Grid,
-    totals: Totals,
 }
 
 /// The record at which the set's faults are made.
 const FAULTY: usize = 128;
 
-/// Greatest size of a stored total.
-const MOST: i64 = 1 << 43;
-
-/// An accepted call whose total mass and stored totals are at their limits.
+/// An accepted call whose total mass is at its limit.
 fn accepted_call() -> Call {
     let size = Size::new(4, 5);
     let mut particles: Vec<Particle> = (0..=FAULTY as u16)
@@ -44,7 +40,6 @@ fn accepted_call() -> Call {
         particles,
         surplus_bytes: 0,
         grid: Grid::filled(size.nodes(), 9, 8, -7),
-        totals: Totals::from_values([MOST, -MOST, MOST, -MOST, MOST, 0]),
     }
 }
 
@@ -114,18 +109,6 @@ const SET: [Fault; 10] = [
 const NODES: [Fault; 2] = [
     (|call| call.grid.x[3] = 131_073, 12, 3),
     (|call| call.grid.y[4] = -131_073, 12, 4),
-];
-
-const STORED: [Fault; 9] = [
-    (|call| call.totals.mass = MOST + 1, 25, 0),
-    (|call| call.totals.mass = -1, 25, 0),
-    (|call| call.totals.px = -MOST - 1, 25, 0),
-    (|call| call.totals.py = i64::MAX, 25, 0),
-    (|call| call.totals.angular_momentum = i64::MIN, 25, 0),
-    (|call| call.totals.motion = MOST + 1, 25, 0),
-    (|call| call.totals.motion = -1, 25, 0),
-    (|call| call.totals.marks = i64::MAX, 25, 0),
-    (|call| call.totals.marks = -1, 25, 0),
 ];
 
 /// Mends the faults one after another; the call must be refused for the first that is left, and
@@ -219,12 +202,10 @@ fn update_refusals() {
 #[test]
 fn gather_refusals() {
     let operation = |call: &mut Call, records: &mut Vec<u8>| {
-        let (grid, totals) = (&call.grid, &mut call.totals);
-        gather(call.settings.size, records, &grid.x, &grid.y, totals).err()
+        gather(call.settings.size, records, &call.grid.x, &call.grid.y).err()
     };
-    let buffers = [&SIZE[..], &RECORDS_LENGTH, &VECTOR_BUFFERS, &SET, &STORED];
-    climb(&buffers, operation);
-    climb(&[&SIZE, &RECORDS_LENGTH, &SET, &NODES, &STORED], operation);
+    climb(&[&SIZE, &RECORDS_LENGTH, &VECTOR_BUFFERS, &SET], operation);
+    climb(&[&SIZE, &RECORDS_LENGTH, &SET, &NODES], operation);
 }
 
 #[test]
@@ -238,11 +219,9 @@ fn step_refusals() {
         &EDGE,
         &DRAG,
         &SET,
-        &STORED,
     ];
     climb(&faults, |call, records| {
-        let (grid, totals) = (&mut call.grid.buffers(), &mut call.totals);
-        step(call.settings, records, grid, totals).err()
+        step(call.settings, records, &mut call.grid.buffers()).err()
     });
 }
 
@@ -258,11 +237,9 @@ fn run_refusals() {
         &DRAG,
         &STEPS,
         &SET,
-        &STORED,
     ];
     climb(&faults, |call, records| {
-        let (grid, totals) = (&mut call.grid.buffers(), &mut call.totals);
-        let answer = run(call.settings, call.steps, records, grid, totals);
+        let answer = run(call.settings, call.steps, records, &mut call.grid.buffers());
         assert_eq!(answer.completed, 0);
         answer.refusal
     });
@@ -280,20 +257,21 @@ fn file_refusals() {
         &RECORDS_LENGTH,
         &SET,
     ];
-    let read = |call: &mut Call, _: &mut Vec<u8>| read_file(&call.file(), &mut call.totals).err();
-    climb(&faults, read);
+    climb(&faults, |call, _| read_file(&call.file()).err());
     let cut: Fault = (|call| call.particles.truncate(FAULTY), 1, 0);
     climb(
         &[&SIZE, &GRAVITY, &EDGE, &COUNT, &STEPS, &SPARE, &[cut]],
-        read,
+        |call, _| read_file(&call.file()).err(),
     );
 }
 
 #[test]
 fn file_shorter_than_its_header() {
     for length in 0..HEADER_LENGTH {
-        let (file, mut totals) = (&[0xFF; HEADER_LENGTH][..length], Totals::default());
-        assert_eq!(read_file(file, &mut totals), Err(Refusal::at(1, 0)));
+        assert_eq!(
+            read_file(&[0xFF; HEADER_LENGTH][..length]),
+            Err(Refusal::at(1, 0))
+        );
     }
 }
 

@@ -1,15 +1,12 @@
 //! Records and headers read and write back bit for bit.
 
-mod true_totals;
-
 use reference::bath_file::LAYOUT as HEADER;
 use reference::bits::{unpack, Field};
 use reference::generator::Generator;
 use reference::limits::{HEADER_LENGTH, RECORD_LENGTH};
 use reference::particle::LAYOUT as RECORD;
-use reference::{read_record, write_header, write_record};
+use reference::{read_file, read_record, write_header, write_record};
 use reference::{Edge, Header, Particle, Settings, Size};
-use true_totals::read_file;
 
 #[test]
 fn layouts_fill_their_bytes() {

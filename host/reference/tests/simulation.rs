@@ -1,14 +1,11 @@
 //! Steps, runs and lists of calls.
 
-mod true_totals;
-
 use reference::conservation::{Ledger, NodeChanges};
 use reference::generator::Generator;
 use reference::particle_set::{pack_records, particles};
 use reference::simulation::run_by;
-use reference::{scatter, update};
-use reference::{Edge, Grid, Particle, Refusal, RunAnswer, Settings, Size, Sums, Totals};
-use true_totals::{gather, run, step};
+use reference::{gather, run, scatter, step, update};
+use reference::{Edge, Grid, Particle, Refusal, RunAnswer, Settings, Size, Sums};
 
 fn lone(x: i128, vx: i128) -> Particle {
     Particle::at_rest(40, 3, x, 100).moving(vx, 0)
@@ -200,13 +197,7 @@ fn count_step(ledgers: [&mut Ledger; 2], before: &[Particle], settings: Settings
 const LARGEST: Size = Size { nx: 48, ny: 48 };
 
 /// One call of a list, refused or not, on a grid of its own size, checked step by step.
-fn call(
-    generator: &mut Generator,
-    size: Size,
-    records: &mut [u8],
-    totals: &mut Totals,
-    ledger: &mut Ledger,
-) {
+fn call(generator: &mut Generator, size: Size, records: &mut [u8], ledger: &mut Ledger) {
     let refused_entry = generator.once_in(4);
     let wider = generator.between(-1, 3);
     let size = Size::new(size.nx + wider, size.ny + wider.max(0));
@@ -226,21 +217,19 @@ fn call(
             _ => steps = 10_001,
         }
     }
-    let (mut stepped, mut of_steps) = (records.to_vec(), *totals);
-    let grid = &mut grid.buffers();
-    let answer = run_by(Sums::Nearby, settings, steps, records, grid, totals);
+    let mut stepped = records.to_vec();
+    let answer = run_by(Sums::Nearby, settings, steps, records, &mut grid.buffers());
     for _ in 0..answer.completed {
         let before = particles(LARGEST, &stepped).unwrap();
         let mut one_step = Ledger::new(&before);
         count_step([&mut one_step, ledger], &before, settings);
         let mut grid = Grid::zero(size.nodes());
-        let (records, grid) = (&mut stepped, &mut grid.buffers());
-        let one = run_by(Sums::Nearby, settings, 1, records, grid, &mut of_steps);
+        let one = run_by(Sums::Nearby, settings, 1, &mut stepped, &mut grid.buffers());
         assert_eq!((one.completed, one.refusal), (1, None));
         let after = particles(LARGEST, &stepped).unwrap();
         one_step.check(&after).unwrap();
     }
-    assert_eq!((&stepped[..], of_steps), (&*records, *totals));
+    assert_eq!(stepped, records);
     assert!(answer.completed as i128 == steps || answer.refusal.is_some());
     assert!(!refused_entry || answer.completed == 0);
 }
@@ -258,14 +247,12 @@ fn lists_of_calls_keep_to_demand_3() {
         );
         let start = generator.particles(size, count, v, b);
         let mut records = pack_records(&start);
-        let mut totals = Totals::of(&start);
         let mut ledger = Ledger::new(&start);
         for _ in 0..generator.between(0, 6) {
-            let records = &mut records;
-            call(&mut generator, size, records, &mut totals, &mut ledger);
-            let after = particles(LARGEST, records).unwrap();
-            ledger.check(&after).unwrap();
-            assert_eq!(totals, Totals::of(&after));
+            call(&mut generator, size, &mut records, &mut ledger);
+            ledger
+                .check(&particles(LARGEST, &records).unwrap())
+                .unwrap();
         }
         completed += ledger.completed;
     }

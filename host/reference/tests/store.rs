@@ -1,14 +1,11 @@
 //! Stores: their form, what is refused and in which order, and the places that baths take.
 
-mod true_totals;
-
 use reference::bath_file::pack_file;
 use reference::limits::{HEADER_LENGTH, MAX_FILE_LENGTH, NAME_LENGTH, RECORD_LENGTH};
 use reference::limits::{STORE_LENGTH, STORE_PLACES, STORE_PLACE_LENGTH};
 use reference::particle_set::pack_records;
-use reference::{forget, keep};
+use reference::{forget, keep, read_file, return_to};
 use reference::{Edge, Header, Particle, Refusal, Settings, Size, Store};
-use true_totals::{read_file, return_to};
 
 const NAMES: [&[u8]; 4] = [b"A", b"BATH", b"ZZZZZZZZ", b"BAT"];
 const OTHER: &[u8] = b"OTHER";

@@ -6,7 +6,7 @@ use reference::limits::RECORD_LENGTH;
 use reference::particle_set::{pack_records, particles};
 use reference::simulation::{run_by, step_by};
 use reference::transfer::{adding_scatter_by, gather_by, scatter_by};
-use reference::{adding_scatter, scatter, update, Grid, Settings, Size, Sums, Totals};
+use reference::{adding_scatter, scatter, update, Grid, Settings, Size, Sums};
 
 /// Two grids of as many nodes, added.
 fn plus(one: &Grid, other: &Grid) -> Grid {
@@ -36,16 +36,23 @@ fn compare(generator: &mut Generator, size: Size, count: usize, v: i128, b: i128
         let added = adding_scatter_by(sums, size, &records, &mut twice.buffers());
         assert_eq!((added, twice), (Ok(()), plus(&momenta, &momenta)));
         let updated = update(settings, &mut grid.buffers());
-        let [mut of_gather, mut of_step] = [(); 2].map(|()| (records.clone(), Totals::default()));
-        let (moved, totals) = (&mut of_gather.0, &mut of_gather.1);
-        let gathered = gather_by(sums, size, moved, &grid.x, &grid.y, totals);
+        let mut gathered_records = records.clone();
+        let gathered = gather_by(sums, size, &mut gathered_records, &grid.x, &grid.y);
+        let mut stepped_records = records.clone();
         let mut stepped_grid = Grid::zero(size.nodes());
-        let (moved, totals) = (&mut of_step.0, &mut of_step.1);
-        let stepped = step_by(sums, settings, moved, &mut stepped_grid.buffers(), totals);
+        let stepped = step_by(
+            sums,
+            settings,
+            &mut stepped_records,
+            &mut stepped_grid.buffers(),
+        );
         assert_eq!((scattered, updated), (Ok(()), Ok(())));
         assert_eq!(gathered, stepped);
-        assert_eq!((&of_gather, &grid), (&of_step, &stepped_grid));
-        (momenta, gathered, of_gather, grid)
+        assert_eq!(
+            (&gathered_records, &grid),
+            (&stepped_records, &stepped_grid)
+        );
+        (momenta, gathered, gathered_records, grid)
     });
     assert!(outcomes[0] == outcomes[1]);
 }
@@ -92,9 +99,8 @@ fn gather_from_any_field() {
         };
         let (x, y) = (field(), field());
         let outcomes = [Sums::Literal, Sums::Nearby].map(|sums| {
-            let (mut records, mut totals) = (records.clone(), Totals::default());
-            let gathered = gather_by(sums, size, &mut records, &x, &y, &mut totals);
-            (gathered, records, totals)
+            let mut records = records.clone();
+            (gather_by(sums, size, &mut records, &x, &y), records)
         });
         assert_eq!(outcomes[0], outcomes[1]);
     }
@@ -112,11 +118,9 @@ fn runs() {
             .with_edge(generator.edge())
             .with_drag(generator.one_of(&[0, 1, 20]));
         let outcomes = [Sums::Literal, Sums::Nearby].map(|sums| {
-            let (mut records, mut totals) = (records.clone(), Totals::default());
-            let mut grid = Grid::zero(size.nodes());
-            let buffers = &mut grid.buffers();
-            let answer = run_by(sums, settings, steps, &mut records, buffers, &mut totals);
-            (answer, records, grid, totals)
+            let (mut records, mut grid) = (records.clone(), Grid::zero(size.nodes()));
+            let answer = run_by(sums, settings, steps, &mut records, &mut grid.buffers());
+            (answer, records, grid)
         });
         assert_eq!(outcomes[0], outcomes[1]);
     }

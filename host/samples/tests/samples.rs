@@ -25,10 +25,10 @@ fn run_sample(name: &str) -> Ran {
 
 /// The sample's records and steps with other settings.
 fn run_changed(name: &str, change: fn(Settings) -> Settings) -> Ran {
-    let (file, mut totals) = (sample(name).file, Totals::default());
+    let file = sample(name).file;
     let Header {
         settings, steps, ..
-    } = read_file(&file, &mut totals).unwrap();
+    } = read_file(&file).unwrap();
     let settings = change(settings);
     let mut records = file[HEADER_LENGTH..].to_vec();
     let before = particles(settings.size, &records).unwrap();
@@ -39,10 +39,8 @@ fn run_changed(name: &str, change: fn(Settings) -> Settings) -> Ran {
         steps,
         &mut records,
         &mut grid.buffers(),
-        &mut totals,
     );
     let after = particles(settings.size, &records).unwrap();
-    assert_eq!(totals, Totals::of(&after));
     (settings, before, after, answer)
 }
 
@@ -150,7 +148,7 @@ fn sticky_holds_what_would_leave() {
     assert!((10..100).contains(&answer.completed));
 }
 
-fn motion(particles: &[Particle]) -> i64 {
+fn motion(particles: &[Particle]) -> i128 {
     Totals::of(particles).motion
 }
 
@@ -286,17 +284,15 @@ fn keeps_to_demand_3(name: &str) {
     let mut ledger = Ledger::new(&before);
     let mut records = pack_records(&before);
     let mut grid = Grid::zero(settings.size.nodes());
-    let (mut totals, mut now) = (Totals::of(&before), before);
+    let mut now = before;
     for _ in 0..answer.completed {
         let mut one_step = Ledger::new(&now);
         let changes = NodeChanges::of_step(&now, settings);
         one_step.count_step(&now, settings, changes);
         ledger.count_step(&now, settings, changes);
-        let grid = &mut grid.buffers();
-        let one = run_by(Sums::Nearby, settings, 1, &mut records, grid, &mut totals);
+        let one = run_by(Sums::Nearby, settings, 1, &mut records, &mut grid.buffers());
         assert_eq!((one.completed, one.refusal), (1, None));
         now = particles(settings.size, &records).unwrap();
-        assert_eq!(totals, Totals::of(&now));
         one_step.check(&now).unwrap();
         ledger.check(&now).unwrap();
     }
@@ -323,7 +319,7 @@ fn runs_keep_to_demand_3() {
 fn with_steps(file: &[u8], steps: i128) -> Vec<u8> {
     let header = Header {
         steps,
-        ..read_file(file, &mut Totals::default()).unwrap()
+        ..read_file(file).unwrap()
     };
     [&header.pack(0)[..], &file[HEADER_LENGTH..]].concat()
 }

@@ -4,9 +4,8 @@
 //!
 //! `NAME | OPERATION | BUFFERS | ANSWER | BUFFERS AFTER`
 //!
-//! - NAME is `operation/case`, for the lesson page `page-operation/case`; a call of a list is
-//!   `list/case/number`, and gets the records or the store, and the running totals, that the call before
-//!   left.
+//! - NAME is `operation/case`, for the lesson page `page-operation/case`; a call of a list is `list/case/number`, and gets the records or the store
+//!   that the call before left.
 //! - OPERATION is the operation, behind `page-` where the lesson page calls it, and the numbers that it is
 //!   given, each after its name.
 //! - BUFFERS are those that the operation is given, each after its name, and BUFFERS AFTER those of
@@ -23,8 +22,6 @@
 //!   - `store` is its four places, `{}` for one that is free and else `{NAME HEADER RECORDS}`: NAME is
 //!     letters, or else eight bytes, and RECORDS reach the last byte that is not zero. A store of another
 //!     length is hexadecimal.
-//!   - `totals` is the running totals record of a read, a return, a gather, a step or a run: mass, px, py,
-//!     spin, motion, marks, with a comma between.
 //!   - `none` is a buffer of no length.
 //! - ANSWER is `refused R at P`, or `ok` with what the operation hands back; for run it is
 //!   `done N refusal R at P`, for the program its text with `\n` for each line feed.
@@ -36,7 +33,6 @@ mod cases;
 pub mod roundings;
 mod text;
 
-use reference::limits::HEADER_LENGTH;
 use reference::report::program;
 use reference::{
     adding_scatter_for, check_set_for, gather_for, keep_for, read_file_for, run_for, scatter_for,
@@ -81,19 +77,16 @@ pub struct Buffers {
     pub store: Vec<u8>,
     /// A name.
     pub name: Vec<u8>,
-    /// The running totals record.
-    pub totals: Totals,
 }
 
 impl Buffers {
-    /// Bytes and a grid; the running totals are 0.
+    /// Bytes and a grid.
     pub fn new(bytes: Vec<u8>, grid: Grid) -> Self {
         Buffers {
             bytes,
             grid,
             store: Vec::new(),
             name: Vec::new(),
-            totals: Totals::default(),
         }
     }
 
@@ -109,11 +102,6 @@ impl Buffers {
             name: name.to_vec(),
             ..Buffers::of_bytes(bytes)
         }
-    }
-
-    /// The same buffers with these running totals.
-    pub fn with_totals(self, totals: Totals) -> Self {
-        Buffers { totals, ..self }
     }
 }
 
@@ -160,21 +148,9 @@ pub struct Case {
     /// The buffers after the call by the reference.
     pub after: Buffers,
     /// The refusal written down with the case, to hold against the answer; worked out from documents
-    /// 01 and 02 but for `run/stopped-at-its-6th-step-by-14`, `run/stored-totals-stopped-on-its-way`,
-    /// `list/spreading/6` and `list/totals-from-a-read/6`, where the reference gave it.
+    /// 01 and 02 but for `run/stopped-at-its-6th-step-by-14` and `list/spreading/6`, where the reference
+    /// gave it.
     pub stated: Option<Refusal>,
-}
-
-impl Case {
-    /// The records that the call leaves, or those of the file that it read or gave back.
-    pub fn records_left(&self) -> &[u8] {
-        let bytes = &self.after.bytes;
-        match self.answer {
-            Answer::Header(_) => &bytes[HEADER_LENGTH..],
-            Answer::Length(length) => &bytes[HEADER_LENGTH..length],
-            _ => bytes,
-        }
-    }
 }
 
 /// The answer of the reference to a caller; the buffers are left as the operation leaves them.
@@ -184,7 +160,6 @@ pub fn perform(caller: Caller, operation: Operation, buffers: &mut Buffers) -> A
         grid,
         store,
         name,
-        totals,
     } = buffers;
     let sums = Sums::Literal;
     let answer = match operation {
@@ -204,11 +179,10 @@ pub fn perform(caller: Caller, operation: Operation, buffers: &mut Buffers) -> A
             update_for(caller, settings, &mut grid.buffers()).map(|()| Answer::Done)
         }
         Operation::Gather(size) => {
-            gather_for(caller, sums, size, bytes, &grid.x, &grid.y, totals).map(|()| Answer::Done)
+            gather_for(caller, sums, size, bytes, &grid.x, &grid.y).map(|()| Answer::Done)
         }
         Operation::Step(settings) => {
-            let grid = &mut grid.buffers();
-            step_for(caller, sums, settings, bytes, grid, totals).map(|()| Answer::Done)
+            step_for(caller, sums, settings, bytes, &mut grid.buffers()).map(|()| Answer::Done)
         }
         Operation::Run(settings, steps) => Ok(Answer::Ran(run_for(
             caller,
@@ -217,12 +191,11 @@ pub fn perform(caller: Caller, operation: Operation, buffers: &mut Buffers) -> A
             steps,
             bytes,
             &mut grid.buffers(),
-            totals,
         ))),
-        Operation::ReadFile => read_file_for(caller, bytes, totals).map(Answer::Header),
+        Operation::ReadFile => read_file_for(caller, bytes).map(Answer::Header),
         Operation::WriteHeader(header) => write_header(&header, bytes).map(|()| Answer::Done),
         Operation::Keep => keep_for(caller, store, name, bytes).map(|()| Answer::Done),
-        Operation::Return => return_to(store, name, bytes, totals).map(Answer::Length),
+        Operation::Return => return_to(store, name, bytes).map(Answer::Length),
         Operation::Forget => forget(store, name).map(|()| Answer::Done),
         Operation::Program => Ok(Answer::Text(program(bytes))),
     };

@@ -4,7 +4,7 @@ use reference::limits::{DRAG_UNIT, NODE_VELOCITY_UNIT, SPACING, WEIGHT_TOTAL};
 use reference::particle_set::particles;
 use reference::spline::axis_weight;
 use reference::transfer::{gather_by, scatter_by};
-use reference::{update, Edge, Grid, Particle, Settings, Size, Sums, Totals};
+use reference::{update, Edge, Grid, Particle, Settings, Size, Sums};
 
 use crate::{Answer, Case, Operation};
 
@@ -123,8 +123,7 @@ fn of_step(settings: Settings, records: &mut [u8]) -> Vec<Rounding> {
     scatter_by(Sums::Nearby, size, records, &mut grid.buffers()).expect("a set");
     let mut roundings = of_update(settings, &grid);
     update(settings, &mut grid.buffers()).expect("a scattered set can be updated");
-    let totals = &mut Totals::default();
-    gather_by(Sums::Nearby, size, records, &grid.x, &grid.y, totals).expect("a completed step");
+    gather_by(Sums::Nearby, size, records, &grid.x, &grid.y).expect("a completed step");
     roundings.extend(of_gather(size, [&before, records], [&grid.x, &grid.y]));
     roundings
 }

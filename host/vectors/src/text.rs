@@ -4,7 +4,7 @@ use std::fmt::{self, Display, Formatter};
 
 use reference::limits::{HEADER_LENGTH, NAME_LENGTH, RECORD_LENGTH};
 use reference::limits::{STORE_LENGTH, STORE_PLACE_LENGTH};
-use reference::{Caller, Header, Particle, RunAnswer, Settings, Size, Totals};
+use reference::{Caller, Header, Particle, RunAnswer, Settings, Size};
 
 use crate::{Answer, Buffers, Case, Operation};
 
@@ -30,15 +30,6 @@ pub fn prefix(caller: Caller) -> &'static str {
         Caller::Bench => "",
         Caller::Page => "page-",
     }
-}
-
-/// The names of the totals in their order.
-pub const TOTALS: [&str; 6] = ["mass", "px", "py", "spin", "motion", "marks"];
-
-/// The operation's name.
-pub fn word(operation: Operation) -> String {
-    let text = operation.to_string();
-    text.split(' ').next().unwrap_or_default().to_string()
 }
 
 /// Numbers, each behind its name.
@@ -113,7 +104,8 @@ impl Display for Answer {
             Answer::Particle(particle) => write!(f, "ok {}", particle_text(particle)),
             Answer::Count(count) => write!(f, "ok {count}"),
             Answer::Totals(totals) => {
-                write!(f, "ok {}", named(TOTALS, totals.values().map(i128::from)))
+                let names = ["mass", "px", "py", "spin", "motion", "marks"];
+                write!(f, "ok {}", named(names, totals.values()))
             }
             Answer::Weights([lower, nearest, upper]) => write!(f, "ok {lower} {nearest} {upper}"),
             Answer::Ran(RunAnswer { completed, refusal }) => {
@@ -284,10 +276,6 @@ fn store_text(store: &[u8]) -> String {
     places.collect::<Vec<_>>().join(" ")
 }
 
-fn totals_text(totals: &Totals) -> String {
-    totals.values().map(|total| total.to_string()).join(",")
-}
-
 /// The buffers that an operation is given.
 fn named_buffers(operation: &Operation, buffers: &Buffers) -> Vec<NamedBuffer> {
     let Buffers {
@@ -300,22 +288,22 @@ fn named_buffers(operation: &Operation, buffers: &Buffers) -> Vec<NamedBuffer> {
     let records = ("records", records_text(bytes));
     let mass = ("mass", numbers_text(&grid.mass));
     let (x, y) = (("x", numbers_text(&grid.x)), ("y", numbers_text(&grid.y)));
-    let totals = ("totals", totals_text(&buffers.totals));
     match operation {
         Operation::Weights(_) => vec![],
         Operation::ReadRecord | Operation::WriteRecord(_) | Operation::WriteHeader(_) => {
             vec![("bytes", bytes_text(bytes))]
         }
-        Operation::ReadFile => [file_buffers(bytes), vec![totals]].concat(),
-        Operation::Program => file_buffers(bytes),
+        Operation::ReadFile | Operation::Program => file_buffers(bytes),
         Operation::Keep => vec![store, name, ("file", file_text(bytes))],
-        Operation::Return => vec![store, name, ("buffer", file_text(bytes)), totals],
+        Operation::Return => vec![store, name, ("buffer", file_text(bytes))],
         Operation::Forget => vec![store, name],
         Operation::CheckSet(_) | Operation::Totals(_) => vec![records],
         Operation::Update(_) => vec![mass, x, y],
-        Operation::Gather(_) => vec![records, x, y, totals],
-        Operation::Scatter(_) | Operation::AddingScatter(_) => vec![records, mass, x, y],
-        Operation::Step(_) | Operation::Run(..) => vec![records, mass, x, y, totals],
+        Operation::Gather(_) => vec![records, x, y],
+        Operation::Scatter(_)
+        | Operation::AddingScatter(_)
+        | Operation::Step(_)
+        | Operation::Run(..) => vec![records, mass, x, y],
     }
 }
 

@@ -5,7 +5,7 @@ use std::collections::{BTreeMap, BTreeSet};
 use reference::bath_file::LAYOUT;
 use reference::bits::unpack;
 use reference::limits::{HEADER_LENGTH, RECORD_LENGTH};
-use reference::{totals, Caller, Size};
+use reference::{Caller, Size};
 use vectors::{cases, perform, Answer, Case, Operation};
 
 /// The refusals that documents 01 and 02 list for each operation, and for the lesson page.
@@ -18,15 +18,9 @@ const LISTED: [(&str, &[u32]); 26] = [
     ("scatter", &[1, 2, 4, 5, 6, 7, 8, 9]),
     ("adding-scatter", &[1, 2, 4, 5, 6, 7, 8, 9, 20, 21]),
     ("update", &[1, 2, 10, 11, 12, 18, 19]),
-    ("gather", &[1, 2, 4, 5, 6, 7, 8, 9, 12, 13, 14, 15, 25]),
-    (
-        "step",
-        &[1, 2, 4, 5, 6, 7, 8, 9, 10, 13, 14, 15, 18, 19, 25],
-    ),
-    (
-        "run",
-        &[1, 2, 4, 5, 6, 7, 8, 9, 10, 13, 14, 15, 17, 18, 19, 25],
-    ),
+    ("gather", &[1, 2, 4, 5, 6, 7, 8, 9, 12, 13, 14, 15]),
+    ("step", &[1, 2, 4, 5, 6, 7, 8, 9, 10, 13, 14, 15, 18, 19]),
+    ("run", &[1, 2, 4, 5, 6, 7, 8, 9, 10, 13, 14, 15, 17, 18, 19]),
     ("read-file", &[1, 2, 3, 4, 5, 6, 7, 8, 9, 10, 16, 17, 18]),
     ("write-header", &[1, 2, 3, 10, 17, 18, 19]),
     ("keep", &[1, 2, 3, 4, 5, 6, 7, 8, 9, 10, 16, 17, 18, 22, 24]),
@@ -37,17 +31,14 @@ const LISTED: [(&str, &[u32]); 26] = [
     ("page-scatter", &[1, 2, 3, 4, 5, 6, 7, 8, 9]),
     ("page-adding-scatter", &[1, 2, 3, 4, 5, 6, 7, 8, 9, 20, 21]),
     ("page-update", &[1, 2, 10, 11, 12, 18, 19]),
-    (
-        "page-gather",
-        &[1, 2, 3, 4, 5, 6, 7, 8, 9, 12, 13, 14, 15, 25],
-    ),
+    ("page-gather", &[1, 2, 3, 4, 5, 6, 7, 8, 9, 12, 13, 14, 15]),
     (
         "page-step",
-        &[1, 2, 3, 4, 5, 6, 7, 8, 9, 10, 13, 14, 15, 18, 19, 25],
+        &[1, 2, 3, 4, 5, 6, 7, 8, 9, 10, 13, 14, 15, 18, 19],
     ),
     (
         "page-run",
-        &[1, 2, 3, 4, 5, 6, 7, 8, 9, 10, 13, 14, 15, 17, 18, 19, 25],
+        &[1, 2, 3, 4, 5, 6, 7, 8, 9, 10, 13, 14, 15, 17, 18, 19],
     ),
     (
         "page-read-file",
@@ -150,10 +141,7 @@ fn refused_calls_change_nothing() {
         };
         let tried = (13..=15).contains(&refusal.number);
         match case.operation {
-            Operation::Step(_) if tried => {
-                assert_eq!(case.after.bytes, case.before.bytes);
-                assert_eq!(case.after.totals, case.before.totals);
-            }
+            Operation::Step(_) if tried => assert_eq!(case.after.bytes, case.before.bytes),
             Operation::Run(..) if tried => {}
             _ => assert!(case.after == case.before, "{}", case.name),
         }
@@ -164,85 +152,14 @@ fn refused_calls_change_nothing() {
 fn calls_of_a_list_follow_each_other() {
     let cases = cases();
     for pair in cases.windows(2) {
-        let [one, next] = [&pair[0], &pair[1]];
         let list = |case: &Case| case.name.rsplit_once('/').map(|(list, _)| list.to_string());
-        if group(one) != "list" || list(one) != list(next) {
-            continue;
-        }
-        assert_eq!(one.after.totals, next.before.totals, "{}", next.name);
-        if is_lent_totals(next) && !is_set_by(next) {
-            assert_eq!(one.records_left(), next.before.bytes, "{}", next.name);
-        } else if [one, next].iter().all(|case| !case.before.store.is_empty()) {
-            assert!(one.after.store == next.before.store, "{}", next.name);
-        }
-    }
-}
-
-/// Whether the call is lent running totals.
-fn is_lent_totals(case: &Case) -> bool {
-    let moves = matches!(
-        case.operation,
-        Operation::Gather(_) | Operation::Step(_) | Operation::Run(..)
-    );
-    moves || is_set_by(case)
-}
-
-/// Whether the call sets running totals, if it is not refused.
-fn is_set_by(case: &Case) -> bool {
-    matches!(case.operation, Operation::ReadFile | Operation::Return)
-}
-
-/// Every accepted set is one on this grid too.
-const LARGEST: Size = Size { nx: 48, ny: 48 };
-
-/// Running totals are set to the sums of the records, or change as those do. In each operation, of each
-/// caller, some differ before and after, and of those that are moved some are refused with 25, and in runs
-/// some are stopped on their way.
-#[test]
-fn running_totals_follow_the_records() {
-    let mut seen = BTreeSet::new();
-    for case in cases().iter().filter(|case| is_lent_totals(case)) {
-        let (before, after) = (case.before.totals, case.after.totals);
-        let sums = |records: &[u8]| totals(LARGEST, records).unwrap_or_default();
-        let refusal = case.answer.refusal();
-        if is_set_by(case) {
-            let expected = refusal.map_or_else(|| sums(case.records_left()), |_| before);
-            assert_eq!(after, expected, "{}", case.name);
-        } else {
-            let (from, to) = (sums(&case.before.bytes), sums(&case.after.bytes));
-            for (k, total) in before.values().into_iter().enumerate() {
-                let change = to.values()[k] - from.values()[k];
-                assert_eq!(after.values()[k], total + change, "{}", case.name);
+        if group(&pair[0]) == "list" && list(&pair[0]) == list(&pair[1]) {
+            assert!(pair[0].after.store == pair[1].before.store);
+            if pair[0].after.store.is_empty() {
+                assert_eq!(pair[0].after.bytes, pair[1].before.bytes);
             }
         }
-        let number = refusal.map_or(0, |refusal| refusal.number);
-        seen.insert((group(case).to_string(), before != after, number));
     }
-    for operation in ["gather", "step", "run", "read-file", "return"] {
-        assert!(seen.contains(&(operation.to_string(), true, 0)));
-    }
-    for operation in ["gather", "step", "run"] {
-        for caller in ["", "page-"] {
-            let operation = format!("{caller}{operation}");
-            assert!(seen.contains(&(operation.clone(), true, 0)));
-            assert!(seen.contains(&(operation, false, 25)));
-        }
-    }
-    assert!(seen.contains(&("run".to_string(), true, 15)));
-}
-
-/// From a read or a return on, totals are true after every call of a list.
-#[test]
-fn true_totals_stay_true() {
-    let mut followed = 0;
-    for case in cases() {
-        if case.name.starts_with("list/totals-from-") {
-            let sums = totals(LARGEST, case.records_left());
-            assert_eq!(Ok(case.after.totals), sums, "{}", case.name);
-            followed += 1;
-        }
-    }
-    assert_eq!(followed, 18);
 }
 
 #[test]
@@ -338,9 +255,6 @@ fn stopped_runs() {
     assert_eq!(completed("run/marks-stopped-by-15"), 45);
     assert_eq!(completed("list/marks/4"), 32);
     assert_eq!(completed("list/held/9"), 16);
-    assert_eq!(completed("run/stored-totals-stopped-on-its-way"), 12);
-    assert_eq!(completed("run/stored-totals-stopped-at-once"), 0);
-    assert_eq!(completed("list/totals-from-a-read/6"), 10);
     assert_eq!(completed("run/0-steps-of-what-would-stop"), 0);
     assert_eq!(completed("run/10000-steps-of-nothing"), 10_000);
 }

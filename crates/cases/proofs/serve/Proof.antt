@@ -9,13 +9,10 @@ use Rattle.cases.proofs.serve.Statement.{statement}
 use Rattle.cases.proofs.serve.Tie as tie
 
 abbrev invariant-loop : tie.invariant-loop
-invariant-loop bytes₀ store₀ end₀ lent₀ caller₀ stored₀ left₀ bytes store end lent caller stored left = (length bytes ≡ length bytes₀) × (length store ≡ length store₀)
+invariant-loop bytes₀ store₀ end₀ lent₀ caller₀ left₀ bytes store end lent caller left = (length bytes ≡ length bytes₀) × (length store ≡ length store₀)
 
 abbrev decreases-loop : tie.decreases-loop
-decreases-loop bytes₀ store₀ end₀ lent₀ caller₀ stored₀ left₀ bytes store end lent caller stored left = left
-
-none-requires : tie.Need-none-requires invariant-loop decreases-loop
-none-requires c κs = search rules
+decreases-loop bytes₀ store₀ end₀ lent₀ caller₀ left₀ bytes store end lent caller left = left
 
 loop-holds : tie.Need-loop-init invariant-loop decreases-loop
 loop-holds c = search rules
@@ -25,9 +22,6 @@ read-word-requires c κs = search rules
 
 called-by-requires : tie.Need-called-by-requires invariant-loop decreases-loop
 called-by-requires c κs = search rules
-
-stored-by-requires : tie.Need-stored-by-requires invariant-loop decreases-loop
-stored-by-requires c κs = search rules
 
 same_length : tie.Need-same-length invariant-loop decreases-loop
 same_length c = search rules
@@ -55,10 +49,7 @@ loop-less c = search rules
 
 -- behind a line of records, a line of the store, and a call
 loop-again : tie.Need-loop-preserved invariant-loop decreases-loop
-loop-again c =
-    ⊎_elim (λ w. omega (arith, ap length w.5, ap length w.6))
-    (⊎_elim (λ w. omega (arith, ap length w.7, ap length w.8)) (λ w. omega (arith, ap length w.10, ap length w.11)))
-    c.if2.branch
+loop-again c = ⊎_elim (λ w. search rules) (⊎_elim (λ w. search rules) (λ w. omega (arith, ap length w.10, ap length w.11))) c.if2.branch
 
 same-length-3 : tie.Need-same-length-3 invariant-loop decreases-loop
 same-length-3 c = search rules
@@ -75,14 +66,12 @@ serve-spec =
     (tie.spec
     invariant-loop
     decreases-loop
-    none-requires
     loop-holds
     read-word-requires
     same_length
     same-length-2
     returns
     called-by-requires
-    stored-by-requires
     read-requires
     read-requires-2
     call-requires

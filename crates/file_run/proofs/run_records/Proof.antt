@@ -59,7 +59,7 @@ returns : tie.Need-returns
 returns c =
     let s = c.before.before.before.before.before.before.before.before.before.before.before.before.before.before.before in
     on-first s.args.h c.before.before.before.before.before.before.before.before.before.before.before.settings-of.ensures c.before.before.before.before.before.before.before.before.before.before.before.before.nodes.ensures.0
-    s.args.records.now s.args.mass.now s.args.px.now s.args.py.now s.args.totals c.before.before.before.before.before.before.run.ensures
+    s.args.records.now s.args.mass.now s.args.px.now s.args.py.now c.before.before.before.before.before.before.run.ensures
 
 pub run-records-spec : {M : Type 1} → statement M
 run-records-spec =

@@ -10,9 +10,10 @@ use borrow.Fn.Kinds.{In}
 use borrow.Fn.PlainCycle.{Measures, is, falls, and}
 use Rattle.limits.specs.Limits.{most_records}
 use Rattle.particle.specs.Layout.{record_length}
-use Rattle.particles.specs.Set.{set_length, record_count}
+use Rattle.particles.specs.Set.{set_length, record_count, particles_in}
 use Rattle.unpacked.specs.Unpacked.{per_particle}
-use Rattle.transfer.specs.Internal.{GatherSet, Gathers}
+use Rattle.transfer.specs.Transfer.{told_moved, move_answer, Moves}
+use Rattle.transfer.specs.Internal.{GatherSet}
 use Rattle.gather.proofs.gather_large.Reads as gather-large
 use Rattle.gather.proofs.gather_large.Kinds as gather-large-kinds
 use Rattle.gather.proofs.+gather_large.Lts-gather_large as gather-large-lts
@@ -73,7 +74,7 @@ gather-large-gather-scratch-requires t c κs =
     let s = c.before.before.before.before in
     let a = s.args in
     let same = sym (kept t c.before.before) in (
-      subst (λ l. GatherSet a.nx a.ny l a.ux.now a.uy.now a.totals) same s.requires.1,
+      subst (λ l. GatherSet a.nx a.ny l a.ux.now a.uy.now) same s.requires.1,
       subst (λ l. per_particle * record_count l ≤ most_records * per_particle) same (room (length a.records.now) s.requires.1.most),
     )
 
@@ -94,7 +95,7 @@ gather-large-returns : (t : ℕ) → gather-large-lts.Need-returns (
 gather-large-returns t c =
     let g = c.before.before.before.gather-scratch in
     let a = c.before.before.before.before.before.before.before.before.args in
-    subst (λ l. Gathers a.nx a.ny l a.ux.now a.uy.now a.totals g.result g.new.1.1.0) (kept t c.before.before.before.before.before.before) g.ensures
+    subst (λ l. Moves (move_answer a.nx a.ny a.ux.now a.uy.now (particles_in l)) l (told_moved g.result) g.new.1.1.0) (kept t c.before.before.before.before.before.before) g.ensures
 
 pub +gather-large-spec : {M : Type 1} → statement M
 +gather-large-spec = close μ-gather-large λ t. gather-large-lts.spec (

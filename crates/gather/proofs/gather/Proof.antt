@@ -21,7 +21,7 @@ gather-set-requires : tie.Need-gather-set-requires
 gather-set-requires c κs =
     let s = c.before.before.before.before.before.before.args in
     let a = went_on _ _ (sym c.before.before.before.check-gather.ensures ∙ ap told_begun c.before.enum_told.given.1) in
-    gather-set s.caller s.nx s.ny s.records.now s.ux.now s.uy.now s.totals a.1
+    gather-set s.caller s.nx s.ny s.records.now s.ux.now s.uy.now a.1
 
 same_length : tie.Need-same-length
 same_length c = search rules
@@ -29,7 +29,7 @@ same_length c = search rules
 returns : tie.Need-returns
 returns c =
     let s = c.before.before.before.before.before.before.args in
-    stopped s.caller s.nx s.ny s.records.now s.ux.now s.uy.now s.totals
+    stopped s.caller s.nx s.ny s.records.now s.ux.now s.uy.now
     (kept-refusal _ (λ _. tt) (sym c.before.before.before.check-gather.ensures ∙ ap told_begun c.before.refusal.given.1))
 
 same-length-2 : tie.Need-same-length-2
@@ -39,7 +39,7 @@ returns-2 : tie.Need-returns-2
 returns-2 c =
     let s = c.before.before.before.before.before.before.before.before.before.args in
     let a = went_on _ _ (sym c.before.before.before.before.before.before.check-gather.ensures ∙ ap told_begun c.before.before.before.before.enum_told.given.1) in
-    moved_on s.caller s.nx s.ny s.records.now s.ux.now s.uy.now s.totals a.1 c.before.before.gather-set.ensures
+    moved_on s.caller s.nx s.ny s.records.now s.ux.now s.uy.now a.1 c.before.before.gather-set.ensures
 
 pub gather-spec : {M : Type 1} → statement M
 gather-spec =

@@ -2,7 +2,8 @@
 use borrow.Author.Rules.{rules}
 use mathlib.Core.Path.{refl}
 use Rattle.spline.specs.Spline.{D}
-use Rattle.transfer.proofs.Gathers.{built-in-moved}
+use Rattle.transfer.proofs.Sets.{whole-records}
+use Rattle.transfer.proofs.Gathers.{move-ready, built-in-moved}
 use Rattle.gather.proofs.gather_into.Statement.{statement}
 use Rattle.gather.proofs.gather_into.Tie as tie
 
@@ -16,12 +17,12 @@ gather-parts-requires : tie.Need-gather-parts-requires
 gather-parts-requires c κs =
     let s = c.before.before.before.before.before in
     record {
-      ready = s.requires.0;
+      ready = move-ready s.requires.0;
       room =
           record {
-            whole = s.requires.1;
+            whole = whole-records s.args.nx s.args.ny s.args.records.now s.requires.0.set;
             source-numbers = search rules;
-            target-numbers = s.requires.2;
+            target-numbers = s.requires.1;
           };
     }
 

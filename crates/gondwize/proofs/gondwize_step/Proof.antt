@@ -21,7 +21,7 @@ same-length-4 c = search rules
 
 returns : tie.Need-returns
 returns c =
-    let s = c.before.before.before.before.before.before.before.before.before.before.before.before.before.before in
+    let s = c.before.before.before.before.before.before.before.before.before.before.before.before.before in
     let h = c.before.before.before.before.before.before.step.ensures in
     rw (to_z-of_z s.ranges.gx, to_z-of_z s.ranges.gy) at h
 

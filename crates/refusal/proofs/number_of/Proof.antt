@@ -77,9 +77,6 @@ enum-told-23 c = search rules
 enum-told-24 : tie.Need-enum-told-24
 enum-told-24 c = search rules
 
-enum-told-25 : tie.Need-enum-told-25
-enum-told-25 c = search rules
-
 returns : tie.Need-returns
 returns c = sym (ap number c.enum_told.given.1)
 
@@ -152,9 +149,6 @@ returns-23 c = sym (ap number c.enum-told23.given.1)
 returns-24 : tie.Need-returns-24
 returns-24 c = sym (ap number c.enum-told24.given.1)
 
-returns-25 : tie.Need-returns-25
-returns-25 c = sym (ap number c.enum-told25.given.1)
-
 pub number-of-spec : {M : Type 1} → statement M
 number-of-spec =
     tie.close
@@ -183,7 +177,6 @@ number-of-spec =
     enum-told-22
     enum-told-23
     enum-told-24
-    enum-told-25
     returns
     returns-2
     returns-3
@@ -207,5 +200,4 @@ number-of-spec =
     returns-21
     returns-22
     returns-23
-    returns-24
-    returns-25)
+    returns-24)

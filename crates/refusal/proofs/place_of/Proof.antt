@@ -77,9 +77,6 @@ enum-told-10 c = search rules
 enum-told-11 : tie.Need-enum-told-11
 enum-told-11 c = search rules
 
-enum-told-12 : tie.Need-enum-told-12
-enum-told-12 c = search rules
-
 returns : tie.Need-returns
 returns c = sym (ap place c.enum_told.given.1)
 
@@ -152,9 +149,6 @@ returns-23 c = sym (ap place c.enum-told10.given.1)
 returns-24 : tie.Need-returns-24
 returns-24 c = sym (ap place c.enum-told11.given.1)
 
-returns-25 : tie.Need-returns-25
-returns-25 c = sym (ap place c.enum-told12.given.1)
-
 pub place-of-spec : {M : Type 1} → statement M
 place-of-spec =
     tie.close
@@ -183,7 +177,6 @@ place-of-spec =
     enum-told-9
     enum-told-10
     enum-told-11
-    enum-told-12
     returns
     returns-2
     returns-3
@@ -207,5 +200,4 @@ place-of-spec =
     returns-21
     returns-22
     returns-23
-    returns-24
-    returns-25)
+    returns-24)

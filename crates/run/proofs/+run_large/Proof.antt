@@ -78,7 +78,7 @@ run-large-run-set-requires : (t : ℕ) → run-large-lts.Need-run-set-requires (
 run-large-run-set-requires t c κs =
     let s = c.before.before.before.before.before.before.before.before.before in
     let small = room (length s.args.records.now) s.requires.1.most in
-    after (same t c.before.before.before.before.before.before) (λ r m x y. RunReady s.args.settings r m x y s.args.totals × (per_particle * record_count r ≤ most_records * per_particle) × (per_particle * record_count r ≤ most_records * per_particle))
+    after (same t c.before.before.before.before.before.before) (λ r m x y. RunReady s.args.settings r m x y × (per_particle * record_count r ≤ most_records * per_particle) × (per_particle * record_count r ≤ most_records * per_particle))
     (s.requires.1, small, small)
 
 run-large-same-length : (t : ℕ) → run-large-lts.Need-same-length (
@@ -122,7 +122,7 @@ run-large-returns : (t : ℕ) → run-large-lts.Need-returns (
 run-large-returns t c =
     let p = c.before.before.before.before.before.before.before.before.run-set in
     let a = c.before.before.before.before.before.before.before.before.before.before.before.before.before.before.before.before.before.before.args in
-    before (same t c.before.before.before.before.before.before.before.before.before.before.before.before.before.before.before) (λ r m x y. Runs a.settings a.steps r m x y a.totals p.result p.new.1.1.0 p.new.1.1.1.0 p.new.1.1.1.1.0 p.new.1.1.1.1.1.0) p.ensures
+    before (same t c.before.before.before.before.before.before.before.before.before.before.before.before.before.before.before) (λ r m x y. Runs a.settings a.steps r m x y p.result p.new.1.1.0 p.new.1.1.1.0 p.new.1.1.1.1.0 p.new.1.1.1.1.1.0) p.ensures
 
 pub +run-large-spec : {M : Type 1} → statement M
 +run-large-spec = close μ-run-large λ t. run-large-lts.spec (

@@ -77,7 +77,7 @@ run-middle-run-set-requires : (t : ℕ) → run-middle-lts.Need-run-set-requires
 run-middle-run-set-requires t c κs =
     let s = c.before.before.before.before.before.before.before.before.before in
     let small = room (length s.args.records.now) s.requires.1.1 in
-    after (same t c.before.before.before.before.before.before) (λ r m x y. RunReady s.args.settings r m x y s.args.totals × (per_particle * record_count r ≤ middle * per_particle) × (per_particle * record_count r ≤ middle * per_particle))
+    after (same t c.before.before.before.before.before.before) (λ r m x y. RunReady s.args.settings r m x y × (per_particle * record_count r ≤ middle * per_particle) × (per_particle * record_count r ≤ middle * per_particle))
     (s.requires.1.0, small, small)
 
 run-middle-same-length : (t : ℕ) → run-middle-lts.Need-same-length (
@@ -121,7 +121,7 @@ run-middle-returns : (t : ℕ) → run-middle-lts.Need-returns (
 run-middle-returns t c =
     let p = c.before.before.before.before.before.before.before.before.run-set in
     let a = c.before.before.before.before.before.before.before.before.before.before.before.before.before.before.before.before.before.before.args in
-    before (same t c.before.before.before.before.before.before.before.before.before.before.before.before.before.before.before) (λ r m x y. Runs a.settings a.steps r m x y a.totals p.result p.new.1.1.0 p.new.1.1.1.0 p.new.1.1.1.1.0 p.new.1.1.1.1.1.0) p.ensures
+    before (same t c.before.before.before.before.before.before.before.before.before.before.before.before.before.before.before) (λ r m x y. Runs a.settings a.steps r m x y p.result p.new.1.1.0 p.new.1.1.1.0 p.new.1.1.1.1.0 p.new.1.1.1.1.1.0) p.ensures
 
 pub +run-middle-spec : {M : Type 1} → statement M
 +run-middle-spec = close μ-run-middle λ t. run-middle-lts.spec (

@@ -20,21 +20,22 @@ run-records-requires c κs =
 
 sub-report-run : tie.Need-overflow-sub-report-run
 sub-report-run c =
-    let s = c.before.before.before.before.before.before.before.before.before.before.before.before.before.before.before in
-    back_long s.args.file.now c.before.before.before.before.before.before.before.run-records.new.1.0 (file-long s.requires)
+    let s = c.before.before.before.before.before.before.before.before.before.before.before.before.before.before in
+    back_long s.args.file.now c.before.before.before.before.before.before.run-records.new.1.0 (file-long s.requires)
 
 part-report-run-start : tie.Need-slice-bounds-report-run-start
 part-report-run-start c =
-    let s = c.before.before.before.before.before.before.before.before.before.before.before.before.before.before.before.before in
-    back_long s.args.file.now c.before.before.before.before.before.before.before.before.run-records.new.1.0 (file-long s.requires)
+    let s = c.before.before.before.before.before.before.before.before.before.before.before.before.before.before.before in
+    back_long s.args.file.now c.before.before.before.before.before.before.before.run-records.new.1.0 (file-long s.requires)
 
 part-report-run-end : tie.Need-slice-bounds-report-run-end
 part-report-run-end c = search rules
 
 report-run-requires : tie.Need-report-run-requires
 report-run-requires c κs =
-    let run = c.before.before.before.before.before.before.before.before.before.before.run-records in
-    report-ready c.before.before.before.before.before.before.before.before.before.before.before.before.before.before.before.before.before.before.requires run.result run.ensures
+    let s = c.before.before.before.before.before.before.before.before.before.before.before.before.before.before.before.before.before in
+    let run = c.before.before.before.before.before.before.before.before.before.run-records in
+    report-ready s.requires run.result run.ensures
 
 same_length : tie.Need-same-length
 same_length c = search rules
@@ -53,8 +54,9 @@ same-length-5 c = search rules
 
 returns : tie.Need-returns
 returns c =
-    let run = c.before.before.before.before.before.before.before.before.before.before.before.before.before.run-records in
-    accepted-prints c.before.before.before.before.before.before.before.before.before.before.before.before.before.before.before.before.before.before.before.before.before.requires run.result run.ensures c.before.before.report-run.ensures
+    let s = c.before.before.before.before.before.before.before.before.before.before.before.before.before.before.before.before.before.before.before.before in
+    let run = c.before.before.before.before.before.before.before.before.before.before.before.before.run-records in
+    accepted-prints s.requires run.result run.ensures c.before.before.report-run.ensures
 
 pub run-accepted-spec : {M : Type 1} → statement M
 run-accepted-spec =

@@ -10,8 +10,8 @@ use Rattle.store.proofs.Ways.{keep-bath, keep-placed}
 use Rattle.store_calls.proofs.keep_named.Statement.{statement}
 use Rattle.store_calls.proofs.keep_named.Tie as tie
 
-check-file-requires : tie.Need-check-file-requires
-check-file-requires c κs = search rules
+read-file-requires : tie.Need-read-file-requires
+read-file-requires c κs = search rules
 
 enum-known-refusal : tie.Need-enum-known-refusal
 enum-known-refusal c = search rules
@@ -25,13 +25,13 @@ keep-file-requires c κs =
     record {
       store_long = (store-held s.args.store.now s.requires.form).long;
       name-long = (name-held s.args.name.now s.requires.named).short;
-      file-long = (file-long s.args.file.now (bench-file s.args.caller s.args.file.now (sym c.before.before.before.check-file.ensures ∙ ap told_read c.before.enum_told.given.1))).most;
+      file-long = (file-long s.args.file.now (bench-file s.args.caller s.args.file.now (sym c.before.before.before.read-file.ensures ∙ ap told_read c.before.enum_told.given.1))).most;
     }
 
 returns : tie.Need-returns
 returns c =
     let s = c.before.before.before.before.before.before.before in
-    keep-bath s.args.caller s.args.store.now s.args.name.now s.args.file.now s.requires (sym c.before.before.before.check-file.ensures ∙ ap told_read c.before.refusal.given.1)
+    keep-bath s.args.caller s.args.store.now s.args.name.now s.args.file.now s.requires (sym c.before.before.before.read-file.ensures ∙ ap told_read c.before.refusal.given.1)
 
 same_length : tie.Need-same-length
 same_length c = search rules
@@ -39,13 +39,13 @@ same_length c = search rules
 returns-2 : tie.Need-returns-2
 returns-2 c =
     let s = c.before.before.before.before.before.before.before.before.before.before in
-    keep-placed s.args.caller s.args.store.now s.args.name.now s.args.file.now s.requires (sym c.before.before.before.before.before.before.check-file.ensures ∙ ap told_read c.before.before.before.before.enum_told.given.1) c.before.before.keep-file.ensures
+    keep-placed s.args.caller s.args.store.now s.args.name.now s.args.file.now s.requires (sym c.before.before.before.before.before.before.read-file.ensures ∙ ap told_read c.before.before.before.before.enum_told.given.1) c.before.before.keep-file.ensures
 
 pub keep-named-spec : {M : Type 1} → statement M
 keep-named-spec =
     tie.close
     (tie.spec
-    check-file-requires
+    read-file-requires
     enum-known-refusal
     enum_told
     keep-file-requires

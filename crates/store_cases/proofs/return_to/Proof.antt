@@ -6,9 +6,6 @@ use borrow.Author.Rules.{rules}
 use Rattle.store_cases.proofs.return_to.Statement.{statement}
 use Rattle.store_cases.proofs.return_to.Tie as tie
 
-sums-of-requires : tie.Need-sums-of-requires
-sums-of-requires c κs = search rules
-
 slice-aggregate-octets : tie.Need-slice-aggregate-octets
 slice-aggregate-octets c = search rules
 
@@ -20,9 +17,6 @@ gondwize-return-requires c κs = search rules
 
 answer-requires : tie.Need-answer-requires
 answer-requires c κs = search rules
-
-totals-requires : tie.Need-totals-requires
-totals-requires c κs = search rules
 
 count-requires : tie.Need-count-requires
 count-requires c κs = search rules
@@ -50,12 +44,10 @@ pub return-to-spec : {M : Type 1} → statement M
 return-to-spec =
     tie.close
     (tie.spec
-    sums-of-requires
     slice-aggregate-octets
     octets-requires
     gondwize-return-requires
     answer-requires
-    totals-requires
     count-requires
     within-requires
     slice-reshare-prefix-bytes

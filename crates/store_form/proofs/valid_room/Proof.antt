@@ -33,10 +33,10 @@ module _ (room : List ℕ) {end : ℕ} (e : end ≡ file_length room) where
       opened ∙ ap₂ (λ t a. (t && accepted a) && all_zero (drop end room)) (le-leb end (length room) h) f
 
 -- by what is read
-by_read : (c : tie.After-check-file) {r : FileRead} → c.check-file.result ≡ r → let l = c.before.before.before in let room = l.before.before.args.room.now in valid_room room ≡ (accepted (told_read r) && all_zero (drop l.file-length.result room))
+by_read : (c : tie.After-read-file) {r : FileRead} → c.read-file.result ≡ r → let l = c.before.before.before in let room = l.before.before.args.room.now in valid_room room ≡ (accepted (told_read r) && all_zero (drop l.file-length.result room))
 by_read c e =
     let l = c.before.before.before in
-    by-file l.before.before.args.room.now l.file-length.ensures c.before.before.if1.false (sym c.check-file.ensures ∙ ap told_read e)
+    by-file l.before.before.args.room.now l.file-length.ensures c.before.before.if1.false (sym c.read-file.ensures ∙ ap told_read e)
 
 file-length-requires : tie.Need-file-length-requires
 file-length-requires c κs = search rules
@@ -46,13 +46,13 @@ returns c =
     let l = c.before in
     sym (too_long l.before.before.args.room.now l.file-length.ensures c.if1.true)
 
-slice-aggregate-check-file : tie.Need-slice-aggregate-check-file
-slice-aggregate-check-file c =
+slice-aggregate-read-file : tie.Need-slice-aggregate-read-file
+slice-aggregate-read-file c =
     let l = c.before.before in
     sym (length-take-le l.file-length.result l.before.before.args.room.now c.before.if1.false)
 
-check-file-requires : tie.Need-check-file-requires
-check-file-requires c κs = search rules
+read-file-requires : tie.Need-read-file-requires
+read-file-requires c κs = search rules
 
 enum_told : tie.Need-enum-told
 enum_told c = search rules
@@ -90,8 +90,8 @@ valid-room-spec =
     (tie.spec
     file-length-requires
     returns
-    slice-aggregate-check-file
-    check-file-requires
+    slice-aggregate-read-file
+    read-file-requires
     enum_told
     enum-told-2
     sub-all-zero

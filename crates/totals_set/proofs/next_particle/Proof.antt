@@ -6,9 +6,8 @@ use borrow.Author.Rules.{rules}
 use Rattle.totals.specs.Share.{share, plus}
 use Rattle.particles.specs.Walk.{told_entered}
 use Rattle.particles.proofs.Turns.{light-passed}
-use Rattle.totals_share.specs.Small.{SmallSums}
-use Rattle.totals_share.proofs.Small.{valid-slight, share-small, small-fits, small-plus}
-use Rattle.totals_set.proofs.CheckedParticle.{particle-passes, refuses}
+use Rattle.totals_set.specs.Walk.{SmallSums}
+use Rattle.totals_set.proofs.CheckedParticle.{particle-passes, refuses, share-small, small-fits, small-plus}
 use Rattle.totals_set.proofs.next_particle.Statement.{statement}
 use Rattle.totals_set.proofs.next_particle.Tie as tie
 
@@ -17,7 +16,7 @@ start c = c.before.before.before.before.before
 
 -- the particle's share, and the totals after it
 share-is-small : (c : tie.After-share-of) → SmallSums 1 (share (start c).args.p)
-share-is-small c = share-small (start c).args.p (valid-slight (start c).requires.0 (start c).requires.1)
+share-is-small c = share-small (start c).args.p (start c).requires.0 (start c).requires.1
 
 totals-are : (c : tie.After-plus-of) → c.plus-of.result ≡ plus (start c.before).args.progress.totals (share (start c.before).args.p)
 totals-are c = c.plus-of.ensures ∙ ap (plus (start c.before).args.progress.totals) c.before.share-of.ensures
@@ -34,7 +33,7 @@ share-of-requires c κs = search rules
 plus-of-requires : tie.Need-plus-of-requires
 plus-of-requires c κs =
     let s = start c in
-    small-fits s.args.k 1 (omega (arith, s.pre.3)) s.pre.4.sums (subst (SmallSums 1) (sym c.share-of.ensures) (share-is-small c))
+    small-fits s.args.k s.pre.3 s.pre.4.sums (subst (SmallSums 1) (sym c.share-of.ensures) (share-is-small c))
 
 enum-known-refusal : tie.Need-enum-known-refusal
 enum-known-refusal c = search rules

@@ -1,5 +1,4 @@
 -- `walk` meets its contract: what is left of the walk, added to what is done, is the whole. Assumes nothing.
-use mathlib.Core.Path.{sym, subst}
 use Prim.Native.Nat.{◌-◌}
 use native.Mathlib.Omega.{arith}
 use borrow.Author.Rules.{rules}
@@ -13,16 +12,11 @@ invariant-loop nx ny bytes start count progress₀ k₀ progress k = Walking nx 
 abbrev decreases-loop : tie.decreases-loop
 decreases-loop nx ny bytes start count progress₀ k₀ progress k = count - k
 
-none-requires : tie.Need-none-requires invariant-loop decreases-loop
-none-requires c κs = search rules
-
 loop-holds : tie.Need-loop-init invariant-loop decreases-loop
-loop-holds c =
-    let s = c.before.before.args in
-    subst (λ t. Walking s.nx s.ny s.start s.bytes.now s.count (record { entry = record { least = 0; mass = 0 }; totals = t }) 0) (sym c.none.ensures) walking_start
+loop-holds c = walking_start
 
 next-record-requires : tie.Need-next-record-requires invariant-loop decreases-loop
-next-record-requires c κs = (c.before.before.before.before.requires.0, omega arith, c.before.loop.invariant.small, omega arith)
+next-record-requires c κs = (c.before.before.before.requires.0, omega arith, c.before.loop.invariant.small, omega arith)
 
 enum-known-next : tie.Need-enum-known-next invariant-loop decreases-loop
 enum-known-next c = search rules
@@ -53,7 +47,6 @@ walk-spec =
     (tie.spec
     invariant-loop
     decreases-loop
-    none-requires
     loop-holds
     next-record-requires
     enum-known-next

@@ -2,9 +2,8 @@
 -- the parts' contracts. Assumes nothing.
 use borrow.Author.Rules.{rules}
 use native.Mathlib.Omega.{arith}
-use lib.Dec.{lit≤}
 use Rattle.arith.specs.Size.{sizes, bounded}
-use Rattle.bits.proofs.Held.{held-unsigned, held-signed, wider}
+use Rattle.bits.proofs.Held.{held-unsigned, held-signed}
 use Rattle.particle.specs.declared.Particle.{Particle}
 use Rattle.particle.proofs.Fields.{Typed, typed}
 use Rattle.totals_share.proofs.Shares.{Widened, linear-fits, angular-fits, straight-fits, turning-fits, motion-fits, is_share}
@@ -86,15 +85,15 @@ signed-requires-6 : tie.Need-signed-requires-6
 signed-requires-6 c κs = search rules
 
 linear-share-requires : tie.Need-linear-share-requires
-linear-share-requires c κs = let w = wide c in linear-fits w.mass-held.here (wider (lit≤ tt) w.vx-held).here
+linear-share-requires c κs = let w = wide c in linear-fits w.mass-held.here w.vx-held.here
 
 linear-share-requires-2 : tie.Need-linear-share-requires-2
-linear-share-requires-2 c κs = let w = wide c.before in linear-fits w.mass-held.here (wider (lit≤ tt) w.vy-held).here
+linear-share-requires-2 c κs = let w = wide c.before in linear-fits w.mass-held.here w.vy-held.here
 
 angular-share-requires : tie.Need-angular-share-requires
 angular-share-requires c κs =
     let w = wide c.before.before in
-    angular-fits w.mass-held.here w.x-held.here w.y-held.here (wider (lit≤ tt) w.vx-held).here (wider (lit≤ tt) w.vy-held).here (wider (lit≤ tt) w.byx-held).here (wider (lit≤ tt) w.bxy-held).here
+    angular-fits w.mass-held.here w.x-held.here w.y-held.here w.vx-held.here w.vy-held.here w.byx-held.here w.bxy-held.here
 
 cast-straight-part : tie.Need-overflow-cast-straight-part
 cast-straight-part c = search rules

@@ -2,14 +2,12 @@
 //!
 //! `between BEFORE AFTER [ROUNDS] [[-]NAME]`: both are static libraries; 101 rounds where no number is given;
 //! only the lines whose name has NAME in it, or, with -NAME, has not. The ratio is that of AFTER to BEFORE. The
-//! same library twice tells what the machine's noise is. One line holds a step of AFTER, which keeps running totals,
-//! against a step of BEFORE with a sum over the records behind it.
+//! same library twice tells what the machine's noise is.
 
 use std::path::Path;
 
 use benchmark::library::{load, Library};
-use benchmark::lines::Line;
-use benchmark::tables::{arguments, duration, every_line, tables};
+use benchmark::tables::{arguments, duration, tables};
 use program::Room;
 
 /// How often each is loaded.
@@ -38,11 +36,8 @@ fn main() {
     println!("the median is in its range in 19 cases of 20; the spread has nine rounds in ten");
     let head = ["after", "before", "ratio", "its range", "nine in ten"];
     let (mut slower, mut unsure) = (Vec::new(), Vec::new());
-    let mut pairs = every_line();
-    pairs.push([Line::Step, Line::StepThenTotals]);
     tables(
         [&after, &before],
-        &pairs,
         rounds,
         &chosen,
         &head,

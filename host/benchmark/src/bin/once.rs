@@ -16,12 +16,11 @@ fn main() {
     let number = |text: &String| text.parse().expect("a number");
     let bath = Bath::new(number(particles), number(side), 40);
     let line = Line::ALL.into_iter().find(|line| line.name() == name);
-    let line = line.expect("the name of an operation");
-    let mut timed = Timed::new([line; 2], &bath);
-    timed.prepare(0);
+    let mut timed = Timed::new(line.expect("the name of an operation"), &bath);
+    timed.prepare();
     match library.as_str() {
-        "proved" => timed.call(0, &PROVED),
-        "rust" => timed.call(0, &OPTIMISED),
+        "proved" => timed.call(&PROVED),
+        "rust" => timed.call(&OPTIMISED),
         "none" => {}
         other => panic!("no such library: {other}"),
     }

@@ -5,7 +5,7 @@ use compare::stream;
 use reference::generator::Generator;
 use reference::limits::{MAX_FILE_LENGTH, STORE_LENGTH};
 use reference::particle_set::pack_records;
-use reference::{keep, Caller, Edge, Grid, Header, Particle, Settings, Size, Totals};
+use reference::{keep, Caller, Edge, Grid, Header, Particle, Settings, Size};
 use vectors::{Buffers, Operation};
 
 use super::table;
@@ -24,7 +24,6 @@ struct Bath {
     /// Bytes after the last record.
     more: usize,
     nodes: usize,
-    totals: Totals,
 }
 
 impl Bath {
@@ -41,7 +40,6 @@ impl Bath {
             particles: (0..count).map(particle).collect(),
             more: 0,
             nodes: size.nodes(),
-            totals: Totals::default(),
         }
     }
 
@@ -79,7 +77,6 @@ impl Bath {
             self.with(|bath| bath.settings.size.ny = 49),
             self.with(|bath| bath.more = 1),
             self.with(|bath| bath.nodes -= 1),
-            self.with(|bath| bath.totals.marks = -1),
             self.with(|bath| bath.particles.iter_mut().for_each(|p| p.mass = 1023)),
             last(|p| p.mass = 0),
             last(|p| p.vx = -64),
@@ -132,8 +129,8 @@ impl Bath {
             // As masses with momenta, and as velocities: slow, and too fast for a particle.
             for speed in [5, 20_000] {
                 let grid = Grid::filled(self.nodes, 3, speed, -speed);
-                let buffers = Buffers::new(records.clone(), grid);
-                each(caller, operation, buffers.with_totals(self.totals));
+                let bytes = records.clone();
+                each(caller, operation, Buffers::new(bytes, grid));
             }
         }
         for steps in [3, 10_001] {

@@ -3,8 +3,8 @@
 //!
 //! The stack is filled with a pattern; after a call, the lowest word that differs tells how deep the
 //! call went. What counts is all below the caller's frame: the arguments that are passed on the stack
-//! (as many as the call with the most has, whose number keeps the stack aligned), the return address,
-//! and the frames of the library.
+//! (as many as the call with the most has, and a word that keeps the stack aligned), the return
+//! address, and the frames of the library.
 
 use std::arch::naked_asm;
 use std::mem::transmute;
@@ -29,7 +29,7 @@ static TOP: AtomicPtr<u64> = AtomicPtr::new(std::ptr::null_mut());
 static IN_USE: Mutex<()> = Mutex::new(());
 
 /// For a function of the library one that goes to the stack at [`TOP`], with the twelve words on the
-/// stack that a run's arguments take, calls it and comes back.
+/// stack of which up to eleven are arguments, calls it and comes back.
 macro_rules! painted {
     ($name:ident $function:ident) => {{
         #[unsafe(naked)]

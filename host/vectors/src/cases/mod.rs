@@ -4,17 +4,15 @@ mod files;
 mod halves;
 mod page;
 mod records;
-mod running;
 mod sets;
 mod simulation;
 mod stores;
 mod transfers;
 
-use reference::limits::{MAX_STORED_TOTAL, RECORD_LENGTH};
+use reference::limits::RECORD_LENGTH;
 use reference::particle_set::pack_records;
-use reference::{Caller, Edge, Grid, Particle, Refusal, Settings, Size, Totals};
+use reference::{Caller, Edge, Grid, Particle, Refusal, Settings, Size};
 
-use crate::text::{prefix, word};
 use crate::{perform, Buffers, Case, Operation};
 
 /// All cases.
@@ -30,53 +28,20 @@ pub fn cases() -> Vec<Case> {
     ]
     .concat();
     let repeated = page::repeated(&bench);
-    let running = running::cases(&bench);
-    [bench, page::cases(), repeated, running].concat()
-}
-
-/// A refusal's number and place, or none.
-type Stated = Option<(u32, usize)>;
-
-/// The name of a caller's case.
-fn full_name(caller: Caller, operation: Operation, name: &str) -> String {
-    format!("{}{}/{name}", prefix(caller), word(operation))
+    [bench, page::cases(), repeated].concat()
 }
 
 /// The smallest grid.
 const SMALL: Size = Size { nx: 4, ny: 4 };
 
 /// A case with the refusal that is expected of it: number and place, or none.
-fn case(name: impl Into<String>, operation: Operation, before: Buffers, stated: Stated) -> Case {
+fn case(
+    name: impl Into<String>,
+    operation: Operation,
+    before: Buffers,
+    stated: Option<(u32, usize)>,
+) -> Case {
     case_for(Caller::Bench, name, operation, before, stated)
-}
-
-/// Greatest size of a stored total.
-const MOST_STORED: i64 = MAX_STORED_TOTAL as i64;
-
-/// Running totals that are accepted and that no records have.
-fn stored() -> Totals {
-    Totals::from_values([70_001, -3_000_017, 50_011, -9_000_049, 800_063, 977])
-}
-
-/// Running totals each of which is refused.
-fn refused_totals() -> Totals {
-    let beyond = MOST_STORED + 1;
-    Totals::from_values([-1, beyond, i64::MIN, -beyond, -2, i64::MAX])
-}
-
-/// The running totals of a call that is refused so, or not: accepted where they are looked at, and else
-/// such that 25 would refuse them.
-fn lent(operation: Operation, stated: Stated) -> Totals {
-    let at_entry = stated.is_some_and(|(number, _)| !(13..=15).contains(&number));
-    match operation {
-        Operation::Gather(_) | Operation::Step(_) | Operation::Run(..) if !at_entry => stored(),
-        Operation::Gather(_)
-        | Operation::Step(_)
-        | Operation::Run(..)
-        | Operation::ReadFile
-        | Operation::Return => refused_totals(),
-        _ => Totals::default(),
-    }
 }
 
 /// A caller's case.
@@ -85,19 +50,7 @@ fn case_for(
     name: impl Into<String>,
     operation: Operation,
     before: Buffers,
-    stated: Stated,
-) -> Case {
-    let totals = lent(operation, stated);
-    lent_case(caller, name, operation, before.with_totals(totals), stated)
-}
-
-/// A caller's case with the running totals of its buffers.
-fn lent_case(
-    caller: Caller,
-    name: impl Into<String>,
-    operation: Operation,
-    before: Buffers,
-    stated: Stated,
+    stated: Option<(u32, usize)>,
 ) -> Case {
     let mut after = before.clone();
     let answer = perform(caller, operation, &mut after);

@@ -8,9 +8,8 @@ use reference::limits::{HEADER_LENGTH, STORE_LENGTH};
 use reference::particle_set::pack_records;
 use reference::{keep, Caller, Edge, Header, Particle, Settings, Size};
 
-use super::{broken, bytes, case_for, corners, full_name, lent_case, marked, marked_records};
-use super::{used_grid, Stated, REFUSED_GRIDS};
-use crate::text::{prefix, word};
+use super::{broken, bytes, case_for, corners, marked, marked_records, used_grid, REFUSED_GRIDS};
+use crate::text::prefix;
 use crate::{Buffers, Case, Operation};
 
 pub fn cases() -> Vec<Case> {
@@ -40,7 +39,7 @@ pub fn repeated(bench: &[Case]) -> Vec<Case> {
         }
         let name = format!("{}{}", prefix(Caller::Page), bench.name);
         let before = bench.before.clone();
-        let page = lent_case(Caller::Page, name, bench.operation, before, stated);
+        let page = case_for(Caller::Page, name, bench.operation, before, stated);
         if (&page.answer, &page.after) == (&bench.answer, &bench.after) {
             seen.insert(told);
             cases.push(page);
@@ -62,9 +61,18 @@ fn has_caller(operation: Operation) -> bool {
     )
 }
 
+/// The operation's name.
+fn word(operation: Operation) -> String {
+    let text = operation.to_string();
+    text.split(' ').next().unwrap_or_default().to_string()
+}
+
+/// A refusal's number and place, or none.
+type Stated = Option<(u32, usize)>;
+
 /// A call by the page.
 fn page(name: &str, operation: Operation, before: Buffers, stated: Stated) -> Case {
-    let name = full_name(Caller::Page, operation, name);
+    let name = format!("{}{}/{name}", prefix(Caller::Page), word(operation));
     case_for(Caller::Page, name, operation, before, stated)
 }
 
@@ -76,12 +84,11 @@ fn apart(
     number: u32,
     stated: Stated,
 ) -> [Case; 2] {
-    let bench = full_name(Caller::Bench, operation, &format!("bench-{name}"));
-    let bench = case_for(Caller::Bench, bench, operation, before, stated);
-    let name = full_name(Caller::Page, operation, name);
-    let (before, stated) = (bench.before.clone(), Some((number, 0)));
-    let page = lent_case(Caller::Page, name, operation, before, stated);
-    [page, bench]
+    let bench = format!("{}/bench-{name}", word(operation));
+    [
+        page(name, operation, before.clone(), Some((number, 0))),
+        case_for(Caller::Bench, bench, operation, before, stated),
+    ]
 }
 
 /// An operation on a set, with these settings and steps.

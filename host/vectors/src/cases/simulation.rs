@@ -2,10 +2,10 @@
 
 use reference::limits::RECORD_LENGTH;
 use reference::particle_set::pack_records;
-use reference::{totals, Caller, Edge, Grid, Particle, Settings, Size};
+use reference::{Caller, Edge, Grid, Particle, Settings, Size};
 
 use super::{
-    broken, case, copies, corners, differing_marks, edge_name, heaviest, lent_case, lone, marked,
+    broken, case, case_for, copies, corners, differing_marks, edge_name, heaviest, lone, marked,
 };
 use super::{marked_records, printed, refused_forcings, refused_sets, used_grid, with_grid};
 use super::{REFUSED_GRIDS, REFUSED_SIZES, SMALL};
@@ -358,8 +358,7 @@ fn examples() -> Vec<Case> {
 /// A call of a list: the operation, its grid and its refusal.
 type ListCall = (Operation, Grid, Option<(u32, usize)>);
 
-/// The calls of a list, each with the records and the running totals that the one before left, the first
-/// with true ones.
+/// The calls of a list, each with the records that the one before left.
 fn list(name: &str, start: &[Particle], calls: &[ListCall]) -> Vec<Case> {
     list_of(name, marked_records(start), calls)
 }
@@ -376,13 +375,12 @@ fn list_for(
     mut bytes: Vec<u8>,
     calls: impl IntoIterator<Item = (Caller, ListCall)>,
 ) -> Vec<Case> {
-    let mut totals = totals(Size::new(48, 48), &bytes).expect("an accepted set");
     let mut cases = Vec::new();
     for (number, (caller, (operation, grid, stated))) in calls.into_iter().enumerate() {
-        let buffers = Buffers::new(bytes, grid).with_totals(totals);
+        let buffers = Buffers::new(bytes, grid);
         let name = format!("list/{name}/{number}");
-        let case = lent_case(caller, name, operation, buffers, stated);
-        (bytes, totals) = (case.after.bytes.clone(), case.after.totals);
+        let case = case_for(caller, name, operation, buffers, stated);
+        bytes = case.after.bytes.clone();
         cases.push(case);
     }
     cases

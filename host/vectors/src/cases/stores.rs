@@ -8,7 +8,7 @@ use reference::limits::{STORE_LENGTH, STORE_PLACE_LENGTH};
 use reference::{Caller, Edge, Header, Particle, Settings};
 
 use super::files::read_refusals;
-use super::{case, copies, lent_case, lone, marked, refused_totals, SMALL};
+use super::{case, case_for, copies, lone, marked, SMALL};
 use crate::{Buffers, Case, Operation};
 
 pub fn cases() -> Vec<Case> {
@@ -385,18 +385,17 @@ fn forgetting(name: &'static [u8]) -> ListCall {
     (Caller::Bench, Operation::Forget, name, Vec::new())
 }
 
-/// Calls with their refusals, 0 for none; each gets the store and the running totals that the one before
-/// left.
+/// Calls with their refusals, 0 for none; each gets the store that the one before left.
 fn list_of(list: &str, calls: impl IntoIterator<Item = (ListCall, u32)>) -> Vec<Case> {
-    let (mut store, mut totals) = (store(&[]), refused_totals());
+    let mut store = store(&[]);
     let mut cases = Vec::new();
     for (number, (call, refusal)) in calls.into_iter().enumerate() {
         let (caller, operation, under, bytes) = call;
         let stated = (refusal > 0).then_some((refusal, 0));
-        let buffers = Buffers::of_store(store, under, bytes).with_totals(totals);
+        let buffers = Buffers::of_store(store, under, bytes);
         let name = format!("list/{list}/{number}");
-        let case = lent_case(caller, name, operation, buffers, stated);
-        (store, totals) = (case.after.store.clone(), case.after.totals);
+        let case = case_for(caller, name, operation, buffers, stated);
+        store = case.after.store.clone();
         cases.push(case);
     }
     cases

@@ -1,17 +1,14 @@
-//! What is kept from line to line: who calls, the running totals, the bytes that hold records or a file,
-//! and the store.
+//! What is kept from line to line: who calls, the bytes that hold records or a file, and the store.
 
 use reference::limits::{MAX_SET_LENGTH, RECORD_LENGTH};
 use reference::limits::{NAME_LENGTH, STORE_LENGTH, STORE_PLACE_LENGTH};
-use reference::{read_record, Caller, Particle, Totals};
+use reference::{read_record, Caller, Particle};
 
 use crate::output::{bytes, numbers};
 
-/// The caller, the totals that each call is lent, the bytes and the store, and how much of these a call is
-/// lent.
+/// The caller, the bytes and the store, and how much of each a call is lent.
 pub struct Kept {
     pub caller: Caller,
-    pub stored: Totals,
     room: Vec<u8>,
     end: usize,
     store: Vec<u8>,
@@ -23,7 +20,6 @@ impl Kept {
     pub fn new() -> Self {
         Kept {
             caller: Caller::Bench,
-            stored: Totals::default(),
             room: vec![0; MAX_SET_LENGTH + RECORD_LENGTH],
             end: 0,
             store: vec![0; STORE_LENGTH + 1],

@@ -10,13 +10,13 @@ use std::io;
 
 use input::{Line, List, Lists};
 use kept::{particle, Kept};
-use output::{answer, answer_with, buffers, bytes, numbers, values, values_with};
+use output::{answer, buffers, bytes, numbers, values};
 use reference::{
     adding_scatter_for, check_set_for, gather_for, keep_for, read_file_for, run_for, scatter_for,
     step_for, totals_for, update_for,
 };
 use reference::{forget, read_record, return_to, weights, write_header, write_record};
-use reference::{Caller, Edge, Header, Settings, Size, Sums, Totals};
+use reference::{Caller, Edge, Header, Settings, Size, Sums};
 
 /// So many bytes of a buffer are printed behind a return.
 const SHOWN: usize = 48;
@@ -32,14 +32,9 @@ fn settings(numbers: &[i128]) -> Settings {
         .with_drag(drag)
 }
 
-fn stored(numbers: &[i128]) -> Totals {
-    let numbers: &[i128; 6] = numbers.try_into().expect("six totals");
-    Totals::from_values(numbers.map(|total| total.try_into().expect("64 bits")))
-}
-
 /// An operation on a record, a set or a file.
 fn on_bytes(line: &Line, kept: &mut Kept) -> Option<String> {
-    let (caller, mut stored) = (kept.caller, kept.stored);
+    let caller = kept.caller;
     let lent = kept.lent();
     let shown = match (line.name, &line.numbers[..]) {
         ("weights", &[q]) => values('v', weights(q)),
@@ -50,12 +45,12 @@ fn on_bytes(line: &Line, kept: &mut Kept) -> Option<String> {
         }
         ("totals", &[nx, ny]) => {
             let found = totals_for(caller, Size::new(nx, ny), lent);
-            values('v', found.map(|t| t.values().map(i128::from)))
+            values('v', found.map(|t| t.values()))
         }
-        ("file", []) => {
-            let found = read_file_for(caller, lent, &mut stored);
-            values_with(stored, 'v', found.map(|header| header.values()))
-        }
+        ("file", []) => values(
+            'v',
+            read_file_for(caller, lent).map(|header| header.values()),
+        ),
         ("write", fields) => answer(write_record(&particle(fields), lent)) + &kept.shown(),
         ("header", given) => {
             let header = Header::of(given.try_into().expect("nine values"));
@@ -68,7 +63,7 @@ fn on_bytes(line: &Line, kept: &mut Kept) -> Option<String> {
 
 /// An operation on a grid, whose lists are masses, x and y.
 fn on_grid(line: &Line, lists: &mut Lists, kept: &mut Kept) -> Option<String> {
-    let (caller, mut stored) = (kept.caller, kept.stored);
+    let caller = kept.caller;
     let lent = kept.lent();
     let mut shown = match (line.name, &line.numbers[..]) {
         ("scatter", &[nx, ny]) => {
@@ -87,15 +82,14 @@ fn on_grid(line: &Line, lists: &mut Lists, kept: &mut Kept) -> Option<String> {
         }
         ("update", given) => answer(update_for(caller, settings(given), &mut lists.lent())),
         ("step", given) => {
-            let (given, grid) = (settings(given), &mut lists.lent());
-            let answered = step_for(caller, SUMS, given, lent, grid, &mut stored);
-            answer_with(stored, answered) + &kept.shown()
+            let answered = step_for(caller, SUMS, settings(given), lent, &mut lists.lent());
+            answer(answered) + &kept.shown()
         }
         ("run", &[ref given @ .., steps]) => {
-            let (given, grid) = (settings(given), &mut lists.lent());
-            let ran = run_for(caller, SUMS, given, steps, lent, grid, &mut stored);
-            let answered = answer_with(stored, ran.refusal.map_or(Ok(()), Err));
-            answered + &kept.shown() + &numbers('n', &[ran.completed])
+            let given = settings(given);
+            let ran = run_for(caller, SUMS, given, steps, lent, &mut lists.lent());
+            let answered = ran.refusal.map_or(Ok(()), Err);
+            answer(answered) + &kept.shown() + &numbers('n', &[ran.completed])
         }
         _ => return None,
     };
@@ -108,22 +102,20 @@ fn on_velocities(line: &Line, x: &List<i64>, y: &List<i64>, kept: &mut Kept) -> 
     let ("gather", &[nx, ny]) = (line.name, &line.numbers[..]) else {
         return None;
     };
-    let (caller, mut stored, size) = (kept.caller, kept.stored, Size::new(nx, ny));
-    let (lent, x, y) = (kept.lent(), x.lent(), y.lent());
-    let gathered = gather_for(caller, SUMS, size, lent, x, y, &mut stored);
-    Some(answer_with(stored, gathered) + &kept.shown())
+    let (caller, size) = (kept.caller, Size::new(nx, ny));
+    let gathered = gather_for(caller, SUMS, size, kept.lent(), x.lent(), y.lent());
+    Some(answer(gathered) + &kept.shown())
 }
 
 /// An operation on the store, whose list is a name.
 fn on_store(line: &Line, name: &[u8], kept: &mut Kept) -> Option<String> {
-    let (caller, mut stored) = (kept.caller, kept.stored);
+    let caller = kept.caller;
     let (store, lent) = kept.lent_store();
     let shown = match (line.name, &line.numbers[..]) {
         ("keep", []) => answer(keep_for(caller, store, name, lent)),
         ("return", []) => {
-            let found = return_to(store, name, lent, &mut stored);
-            let shown = values_with(stored, 'n', found.map(|length| [length as i128]));
-            shown + &bytes(&lent[..lent.len().min(SHOWN)])
+            let found = return_to(store, name, lent).map(|length| [length as i128]);
+            values('n', found) + &bytes(&lent[..lent.len().min(SHOWN)])
         }
         ("forget", []) => answer(forget(store, name)),
         _ => return None,
@@ -163,7 +155,6 @@ fn main() -> io::Result<()> {
             ("store", &[length, at, byte]) => {
                 kept.set(length as usize, at as usize, byte as u8);
             }
-            ("stored", totals) => kept.stored = stored(totals),
             ("page", []) => kept.caller = Caller::Page,
             ("bench", []) => kept.caller = Caller::Bench,
             _ => match called(&line, &mut kept) {

@@ -2,7 +2,7 @@
 
 use std::fmt::Display;
 
-use reference::{Refusal, Totals};
+use reference::Refusal;
 
 use crate::input::Lists;
 
@@ -27,28 +27,10 @@ pub fn answer(answer: Result<(), Refusal>) -> String {
     format!("= {number} {place}\n")
 }
 
-/// The answer, and the running totals that the call leaves.
-pub fn answer_with(totals: Totals, given: Result<(), Refusal>) -> String {
-    answer(given) + &numbers('v', &totals.values())
-}
-
-/// The values, which a refused call leaves as they were.
-fn left<const N: usize>(letter: char, given: Result<[i128; N], Refusal>) -> String {
-    numbers(letter, &given.unwrap_or([BEFORE; N]))
-}
-
-/// The answer and the values.
+/// The answer, and the values, which a refused call leaves as they were.
 pub fn values<const N: usize>(letter: char, given: Result<[i128; N], Refusal>) -> String {
-    answer(given.map(|_| ())) + &left(letter, given)
-}
-
-/// The answer, the running totals and the values.
-pub fn values_with<const N: usize>(
-    totals: Totals,
-    letter: char,
-    given: Result<[i128; N], Refusal>,
-) -> String {
-    answer_with(totals, given.map(|_| ())) + &left(letter, given)
+    let left = given.unwrap_or([BEFORE; N]);
+    answer(given.map(|_| ())) + &numbers(letter, &left)
 }
 
 /// A grid's buffers, whole.

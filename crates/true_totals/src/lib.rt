@@ -1,1 +1,0 @@
-// True running totals stay true: what this means stands in specs/, its proof in proofs/.
