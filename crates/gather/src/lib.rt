@@ -1,4 +1,5 @@
 // Grid-to-particle transfer of a set of records.
+#![tactic(auto)]
 ghost use Rattle.std.specs.Prelude.{◌≡◌, ◌*◌, ◌≤◌, length};
 ghost use Rattle.spline.specs.Spline.{axis_weight};
 ghost use Rattle.particle.specs.Layout.{record_length};

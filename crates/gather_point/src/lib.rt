@@ -1,4 +1,5 @@
 // The grid-to-particle transfer at one place: velocity and affine state from the nine nodes around it.
+#![tactic(auto)]
 ghost use Rattle.std.specs.Prelude.{◌≡◌, ◌+◌, ◌-◌, ◌*◌, ◌<◌, ◌≤◌, length, pos, nat_abs};
 ghost use Rattle.arith.specs.Size.{Bound};
 ghost use Rattle.arith.specs.Sums.{Each};

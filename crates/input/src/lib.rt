@@ -1,4 +1,5 @@
 // Standard input, as far as it decides what is printed.
+#![tactic(auto)]
 ghost use Rattle.std.specs.Prelude.{length, ◌≡◌};
 ghost use Rattle.streams.specs.Streams.{ReadWithin};
 ghost use Rattle.bath_file.specs.File.{room_for_file};

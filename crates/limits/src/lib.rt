@@ -1,4 +1,5 @@
 // The limits of document 01 ("Units" and "Records") and of document 02 by name, and the tests against them.
+#![tactic(auto)]
 ghost use Rattle.std.specs.Prelude.{◌≡◌, ◌&&◌, ◌||◌};
 ghost use Rattle.limits.specs.Limits.{between, isℤ, valid_mass, valid_position, most_side_of, most_records_of};
 

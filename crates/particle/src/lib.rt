@@ -1,4 +1,5 @@
 // A particle record: its fields, and the answers of reading and writing one. What they do stands in specs/, what follows from it in proofs/.
+#![tactic(auto)]
 use refusal::Refusal;
 
 // The length of a particle record in bytes.

@@ -1,4 +1,5 @@
 // The program's answer. What is printed of a file's bytes stands in specs/, what follows from it in proofs/.
+#![tactic(auto)]
 
 // The nodes of the largest grid.
 pub const MOST_NODES: usize = file_run::MOST_NODES;

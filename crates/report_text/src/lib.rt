@@ -1,4 +1,5 @@
 // The text that the program prints, put into a buffer as a whole.
+#![tactic(auto)]
 ghost use Rattle.std.specs.Prelude.{◌≡◌, true, ◌+◌, ◌*◌, ◌≤◌, length};
 ghost use Rattle.particle.specs.Layout.{record_length};
 ghost use Rattle.particle.specs.Record.{particle_of};

@@ -1,4 +1,5 @@
 // The settings of an update, a step and a run.
+#![tactic(auto)]
 ghost use Rattle.std.specs.Prelude.{◌≡◌};
 ghost use Rattle.limits.specs.Limits.{valid_width};
 ghost use Rattle.settings.specs.Settings.{still, edge_of, settings_with, valid_edge};

@@ -1,4 +1,5 @@
 // The quadratic B-spline along one axis, in whole numbers: node spacing 64, weights that total 8192.
+#![tactic(auto)]
 ghost use Rattle.std.specs.Prelude.{◌≡◌, ◌≤◌, T};
 ghost use Rattle.spline.specs.Answers.{told_weights, weights_answer, table, mirror};
 ghost use Rattle.spline.specs.Kernel.{weights_at};

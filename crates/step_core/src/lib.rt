@@ -1,4 +1,5 @@
 // A step on unpacked particles.
+#![tactic(auto)]
 ghost use Rattle.spline.specs.Kernel.{weight_in};
 ghost use Rattle.simulation.specs.Internal.{StepReady, Steps};
 

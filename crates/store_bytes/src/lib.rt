@@ -1,4 +1,5 @@
 // Bytes of a store: tests of them, and bytes written with zeros after them.
+#![tactic(auto)]
 ghost use Rattle.std.specs.Prelude.{◌≡◌, ◌≤◌, eqb, length, replicate};
 ghost use Rattle.store.specs.Names.{all_zero, same_bytes, letters, valid_name, padded};
 

@@ -1,4 +1,5 @@
 // Standard input read to its end, and a text written whole: a failure is told apart from an end.
+#![tactic(auto)]
 ghost use Rattle.streams.specs.Streams.{ReadWithin};
 
 use libc::EINTR;
