@@ -26,7 +26,7 @@ use Rattle.apic.proofs.Spline.{spline-lawful}
 use Rattle.simulation.proofs.Refusals.{grid-limits, velocity-limits}
 use Rattle.simulation.proofs.Steps.{step-result, completed, limits-after}
 use Rattle.composition.specs.Repeated.{then_run, RunIsSteps}
-use Rattle.composition.proofs.Entry.{step_from, known}
+use Rattle.composition.proofs.Entry.{step_after-entry, known}
 
 -- stopped before its first step
 abbrev stopped : ℕ → ℕ → List ℕ → Grids → After Completion
@@ -69,8 +69,8 @@ module _ (caller : Caller) (s : Settings) (records : List ℕ) (grids : Grids) w
     tried e (refused k p) m = rw m
 
     by-entry : (a : Answer (List Particle)) → step_entry caller s records grids ≡ a → run_after caller s (suc n) records grids ≡ then_run caller s n (step_after caller s records grids)
-    by-entry (gives ps) e = run-from caller s records grids (suc n) few e ∙ tried e (step_of s ps) refl ∙ sym (ap (then_run caller s n) (step_from caller s records grids e))
-    by-entry (refused k p) e = run-from caller s records grids (suc n) few e ∙ sym (ap (then_run caller s n) (step_from caller s records grids e))
+    by-entry (gives ps) e = run-from caller s records grids (suc n) few e ∙ tried e (step_of s ps) refl ∙ sym (ap (then_run caller s n) (step_after-entry caller s records grids e))
+    by-entry (refused k p) e = run-from caller s records grids (suc n) few e ∙ sym (ap (then_run caller s n) (step_after-entry caller s records grids e))
 
 pub run-is-steps : RunIsSteps
 run-is-steps caller s n records grids few = by-entry caller s records grids n few (step_entry caller s records grids) refl

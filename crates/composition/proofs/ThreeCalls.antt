@@ -38,7 +38,7 @@ use Rattle.simulation.specs.Step.{seen, masses, masses_by, momenta, momenta_by, 
 use Rattle.simulation.proofs.Refusals as refusals
 use Rattle.simulation.proofs.Refusals.{velocity-limits}
 use Rattle.composition.specs.ThreeCalls.{ThreeCalls, IsStep, StepIsThreeCalls, ThreeCallsExist}
-use Rattle.composition.proofs.Entry.{Known, step_from, known}
+use Rattle.composition.proofs.Entry.{Known, step_after-entry, known}
 
 -- ---- node velocities within their limits pass gather's check, 12
 
@@ -136,7 +136,7 @@ module _ (caller : Caller) (s : Settings) (records : List ℕ) (lent : Grids) {p
     leaves : step_after caller s records lent ≡ seen c.gathered c.moved (record { mass = c.mass; x = c.ux; y = c.uy })
     unfolding step_from
     leaves =
-        step_from caller s records lent e
+        step_after-entry caller s records lent e
         ∙ left (nodes_of s ps) (step_of s ps) moves
         ∙ ap (seen c.gathered c.moved) grids-are
 

@@ -4,7 +4,7 @@
 --     count_fits                  the number of nodes is a machine number
 --     bad-gravity .. good-forces, passed-forces, forces-pass, forces-first
 --                                 gravity, edge and drag, by their tests
---     bad-size .. too_many, begins     the answer before the set, by its tests; bad-count is the caller's 3
+--     bad-size .. too_many_steps, begins     the answer before the set, by its tests; bad-count is the caller's 3
 --     Passed, passed-checks       what is known where it is done
 --     Accepted, accepted          what is known where the set is accepted too
 --     enters                      and what is enough for it
@@ -164,8 +164,8 @@ module _ (caller : Caller) (s : Settings) (buffers : Buffers) (steps bytes : ℕ
       by_tests h.size h.whole h.long h.few ∙ forces-first s _
       ∙ ap₂ (λ a b. and_then a (λ _. refuse_if b 17 0 done)) f e
 
-  pub too_many : Passed → checked_forces s done ≡ done → most_steps < steps → begin_answer caller s buffers steps bytes ≡ refused 17 0
-  too_many h f e = by-steps h f (lt-ltb most_steps steps e)
+  pub too_many_steps : Passed → checked_forces s done ≡ done → most_steps < steps → begin_answer caller s buffers steps bytes ≡ refused 17 0
+  too_many_steps h f e = by-steps h f (lt-ltb most_steps steps e)
 
   pub begins : Passed → checked_forces s done ≡ done → steps ≤ most_steps → begin_answer caller s buffers steps bytes ≡ done
   begins h f e = by-steps h f (le-ltb most_steps steps e)

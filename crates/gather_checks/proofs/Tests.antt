@@ -13,7 +13,6 @@ use lib.IntN.{ℤ, pos, negsuc, ◌-ℤ◌}
 use lib.Signed.{lt_z}
 use borrow.Author.Tests.{lt-ltb, le-ltb, leb-true, leb-false, lt-leb, le-leb, ltb-true, ltb-false}
 use Rattle.arith.specs.Order.{linear, reading, lt_z-true, lt_z-false}
-use Rattle.refusal.proofs.Answers as answers
 use Rattle.spline.specs.Spline.{on_axis}
 use Rattle.gathering.specs.Gather.{beyond, off_axis}
 

@@ -1,5 +1,6 @@
 // The checks of a moved record, on its new numbers: velocity, B and place.
 #![tactic(auto)]
+
 ghost use Rattle.std.specs.Prelude.{◌≡◌, ◌||◌, ◌-◌, ◌*◌, ◌<◌, ◌≤◌, pos};
 ghost use Rattle.refusal.specs.Refused.{gives};
 ghost use Rattle.limits.specs.Limits.{least_side, most_side};

@@ -1,5 +1,6 @@
 // One particle on its way out of the gather: moved, checked, stored.
 #![tactic(auto)]
+
 ghost use Rattle.std.specs.Prelude.{◌≡◌, ◌+◌, ◌*◌, ◌<◌, length, set, ◌+ℤ◌};
 ghost use Rattle.arith.specs.Size.{Bound};
 ghost use Rattle.gather_point.specs.Point.{most_gathered};

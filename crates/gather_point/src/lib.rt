@@ -1,5 +1,6 @@
 // The grid-to-particle transfer at one place: velocity and affine state from the nine nodes around it.
 #![tactic(auto)]
+
 ghost use Rattle.std.specs.Prelude.{◌≡◌, ◌+◌, ◌-◌, ◌*◌, ◌<◌, ◌≤◌, length, pos, nat_abs};
 ghost use Rattle.arith.specs.Size.{Bound};
 ghost use Rattle.arith.specs.Sums.{Each};
@@ -25,7 +26,7 @@ struct Block {
 }
 
 // A particle's velocity on one axis, and the entries of B that pair this axis with x and with y.
-#[derive(Drop)]
+#[derive(Clone, Copy)]
 pub struct AffineVelocity {
     pub v: i64,
     pub bx: i64,

@@ -1,5 +1,6 @@
 // The rounding of what a gather has summed.
 #![tactic(auto)]
+
 ghost use Rattle.std.specs.Prelude.{◌≡◌, ◌^◌};
 ghost use Rattle.arith.specs.Size.{Bound};
 ghost use Rattle.arith.specs.Rounding.{rounded};

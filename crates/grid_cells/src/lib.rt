@@ -1,6 +1,7 @@
 // Cells of a grid: clearing them, and adding to three neighbours in a line. The particle-to-grid transfer calls these,
 // and the rim clears by them.
 #![tactic(auto)]
+
 ghost use Rattle.std.specs.Prelude.{◌≡◌, ◌+◌, ◌<◌, length, get_or, set, replicate, pos, ◌+ℤ◌};
 ghost use Rattle.std.proofs.Common.{Fits, SFits};
 ghost use Rattle.std.specs.Int.{w64};

@@ -1,16 +1,17 @@
 // Standard input, as far as it decides what is printed.
 #![tactic(auto)]
+
 ghost use Rattle.std.specs.Prelude.{length, ◌≡◌};
 ghost use Rattle.streams.specs.Streams.{ReadWithin};
 ghost use Rattle.bath_file.specs.File.{room_for_file};
 
 use bath_file::FILE_ROOM;
-use libc::STDIN_FILENO;
+use std::io::Read;
 use streams::Input;
 
 // Reads an input to its end, or as many bytes of it as the law of longer inputs speaks of.
-pub fn read_input(file: &mut [u8; FILE_ROOM]) -> Input
+pub fn read_input<R: Read>(input: &mut R, file: &mut [u8; FILE_ROOM]) -> Input
     ensures { ReadWithin result file.new × (length file.new ≡ room_for_file) }
 {
-    streams::read_all(STDIN_FILENO, file)
+    streams::read_all(input, file)
 }

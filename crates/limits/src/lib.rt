@@ -1,5 +1,6 @@
 // The limits of document 01 ("Units" and "Records") and of document 02 by name, and the tests against them.
 #![tactic(auto)]
+
 ghost use Rattle.std.specs.Prelude.{◌≡◌, ◌&&◌, ◌||◌};
 ghost use Rattle.limits.specs.Limits.{between, isℤ, valid_mass, valid_position, most_side_of, most_records_of};
 
@@ -56,7 +57,7 @@ const MOST_PAGE_SIDE: usize = 16;
 const MOST_PAGE_RECORDS: usize = 512;
 
 // Who calls an operation: the bench, or the lesson page, which has smaller limits.
-#[derive(Drop)]
+#[derive(Clone, Copy)]
 pub enum Caller {
     Bench,
     Page,

@@ -1,7 +1,6 @@
 // What is printed: lines of a letter and numbers, each number behind a space.
 use crate::lists::NODES;
-use crate::words::{LINE_FEED, MINUS, SPACE};
-use libc::STDOUT_FILENO;
+use crate::words::{LINE_FEED, MINUS, SPACE, STDOUT_FILENO};
 use numerals::magnitude;
 use particle::NUMBERS;
 use store::{NAME_LENGTH, PLACE_LENGTH};

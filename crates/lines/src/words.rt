@@ -1,5 +1,9 @@
 // Words from standard input: names and numbers. Each byte that is read is printed too.
-use libc::{STDIN_FILENO, STDOUT_FILENO};
+
+// Standard input and standard output.
+const STDIN_FILENO: i32 = 0;
+
+pub const STDOUT_FILENO: i32 = 1;
 
 pub const LINE_FEED: u8 = 10;
 

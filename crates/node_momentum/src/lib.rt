@@ -1,5 +1,6 @@
 // A node's momenta against its mass.
 #![tactic(auto)]
+
 ghost use Rattle.std.specs.Prelude.{◌≡◌, ◌^◌, ◌<◌};
 ghost use Rattle.node_momentum.specs.Momentum.{momenta_within};
 

@@ -1,6 +1,7 @@
 // Numbers as decimal text, appended to a buffer. A function gets the buffer and a position in it, and answers the position
 // behind what it has put there. Whoever writes a line calls these with room for its text.
 #![tactic(auto)]
+
 ghost use Rattle.std.specs.Prelude.{◌≡◌, [], ◌∷◌, ◌<◌, nat_abs};
 ghost use Rattle.text.specs.Decimal.{decimal, digit, signed};
 ghost use Rattle.text.specs.Internal.{Room, Put, natural_text};

@@ -1,5 +1,6 @@
 // A particle record: its fields, and the answers of reading and writing one. What they do stands in specs/, what follows from it in proofs/.
 #![tactic(auto)]
+
 use refusal::Refusal;
 
 // The length of a particle record in bytes.
@@ -8,7 +9,7 @@ pub const RECORD_LENGTH: usize = 15;
 // How many numbers a particle has.
 pub const NUMBERS: usize = 11;
 
-#[derive(Drop)]
+#[derive(Clone, Copy)]
 pub struct Particle {
     pub identifier: u16,
     pub mass: u16,

@@ -1,5 +1,6 @@
 // A particle set: its records checked one after the other.
 #![tactic(auto)]
+
 ghost use Rattle.std.specs.Prelude.{◌≡◌, ◌+◌, ◌*◌, ◌≤◌, ◌&&◌, leb, length};
 ghost use Rattle.limits.specs.Limits.{least_side, most_side, most_records};
 ghost use Rattle.particle.specs.Layout.{record_length};

@@ -1,5 +1,6 @@
 // Words and numbers together, appended to a buffer. Whoever writes a line calls these with room for its text.
 #![tactic(auto)]
+
 ghost use Rattle.std.specs.Prelude.{◌++◌, drop};
 ghost use Rattle.text.specs.Internal.{Room, Put, natural_text, piece_of, filled_in};
 

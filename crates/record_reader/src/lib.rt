@@ -1,5 +1,6 @@
 // The record reader: a particle from the bytes of its record.
 #![tactic(auto)]
+
 ghost use Rattle.std.specs.Prelude.{◌≡◌, length};
 ghost use Rattle.particle.specs.Layout.{record_length};
 ghost use Rattle.particle.specs.Record.{particle_of, numbers, read_particle, read_answer, told_read};

@@ -1,5 +1,6 @@
 // The record writer: a particle into the bytes of its record.
 #![tactic(auto)]
+
 ghost use Rattle.std.specs.Prelude.{◌≡◌, [], ◌∷◌, length};
 ghost use Rattle.refusal.specs.Refused.{gives};
 ghost use Rattle.bits.specs.Internal.{Below};

@@ -1,9 +1,10 @@
 // Why a call is refused: one case for each number of the lists of documents 01 and 02, with the record or node where that list gives a place.
 #![tactic(auto)]
+
 ghost use Rattle.std.specs.Prelude.{◌≡◌};
 ghost use Rattle.refusal.specs.Refused.{number, place};
 
-#[derive(Drop)]
+#[derive(Clone, Copy)]
 pub enum Refusal {
     // 1: a slice has the wrong length, or a store another form
     Length,

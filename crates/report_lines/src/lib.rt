@@ -1,5 +1,6 @@
 // The lines of a report, each appended to a buffer with room for it.
 #![tactic(auto)]
+
 ghost use Rattle.text.specs.Internal.{Room, Put};
 ghost use Rattle.report.specs.Lines.{refused_line, done_line, totals_line, particle_line};
 

@@ -42,9 +42,9 @@ speeds s c p q =
       above = bounded (search sizes depth 20) tt;
       less-fits = fits₂ ◌-ℤ◌ s-is c-is (fits (search sizes depth 20) tt);
       more-fits = fits₂ ◌+ℤ◌ s-is c-is (fits (search sizes depth 20) tt);
-      below-is = result₂ ◌-ℤ◌ s-is c-is (fits (search sizes depth 20) tt);
+      below-is = result₂ {w = w64} ◌-ℤ◌ s-is c-is (fits (search sizes depth 20) tt);
       here-is = s-is;
-      above-is = result₂ ◌+ℤ◌ s-is c-is (fits (search sizes depth 20) tt);
+      above-is = result₂ {w = w64} ◌+ℤ◌ s-is c-is (fits (search sizes depth 20) tt);
     }
 
 -- ---- a line's numbers as they are passed on

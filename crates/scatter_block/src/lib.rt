@@ -1,6 +1,7 @@
 // The particle-to-grid transfer of one particle: its shares of mass and momentum are added to the nine nodes around it, line
 // by line. `scatter_particle` calls this.
 #![tactic(auto)]
+
 ghost use Rattle.std.specs.Prelude.{◌≡◌, ◌*◌, ◌≤◌, length};
 ghost use Rattle.scatter_block.specs.Lines.{most_line_mass, momentum_row, MomentumLimits, LineLimits, LineAdded, BlockLimits, BlockAdded};
 

@@ -1,5 +1,6 @@
 // The particle-to-grid transfer of one particle, given as numbers.
 #![tactic(auto)]
+
 ghost use Rattle.std.specs.Prelude.{◌≡◌, [], ◌∷◌, ◌≤◌, pos, ◌+ℤ◌, ◌*ℤ◌};
 ghost use Rattle.arith.specs.Size.{Bound};
 ghost use Rattle.limits.specs.Limits.{most_position, most_affine};

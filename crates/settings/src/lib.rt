@@ -1,5 +1,6 @@
 // The settings of an update, a step and a run.
 #![tactic(auto)]
+
 ghost use Rattle.std.specs.Prelude.{◌≡◌};
 ghost use Rattle.limits.specs.Limits.{valid_width};
 ghost use Rattle.settings.specs.Settings.{still, edge_of, settings_with, valid_edge};
@@ -8,7 +9,7 @@ use limits::{LEAST_WIDTH, MOST_WIDTH};
 
 // The edge of the grid: open, or with a band of the outermost columns and rows, so many nodes wide. Nodes in a sticky edge's
 // band rest; nodes in a slip edge's rest on x in its columns and on y in its rows.
-#[derive(Drop)]
+#[derive(Clone, Copy)]
 pub enum Edge {
     Open,
     Sticky(usize),
@@ -16,7 +17,7 @@ pub enum Edge {
 }
 
 // The grid's size in nodes, gravity in 256ths of a velocity unit per step, the edge, and drag in 256ths of a node's velocity.
-#[derive(Drop)]
+#[derive(Clone, Copy)]
 pub struct Settings {
     pub nx: usize,
     pub ny: usize,

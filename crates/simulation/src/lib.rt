@@ -10,7 +10,7 @@ pub enum Stepped {
 }
 
 // The answer of a run: the number of completed steps, and the first refusal if one stopped it.
-#[derive(Drop)]
+#[derive(Clone, Copy)]
 pub enum Ran {
     Done(usize),
     Stopped(usize, Refusal),

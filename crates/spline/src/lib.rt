@@ -1,5 +1,6 @@
 // The quadratic B-spline along one axis, in whole numbers: node spacing 64, weights that total 8192.
 #![tactic(auto)]
+
 ghost use Rattle.std.specs.Prelude.{◌≡◌, ◌≤◌, T};
 ghost use Rattle.spline.specs.Answers.{told_weights, weights_answer, table, mirror};
 ghost use Rattle.spline.specs.Kernel.{weights_at};
@@ -8,7 +9,7 @@ ghost use Rattle.spline.specs.Test.{passes};
 use refusal::Refusal;
 
 // The weights of the lower, the nearest and the upper node.
-#[derive(Drop)]
+#[derive(Clone, Copy)]
 pub struct AxisWeights {
     pub lower: u16,
     pub nearest: u16,

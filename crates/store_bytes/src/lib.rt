@@ -1,5 +1,6 @@
 // Bytes of a store: tests of them, and bytes written with zeros after them.
 #![tactic(auto)]
+
 ghost use Rattle.std.specs.Prelude.{◌≡◌, ◌≤◌, eqb, length, replicate};
 ghost use Rattle.store.specs.Names.{all_zero, same_bytes, letters, valid_name, padded};
 
@@ -92,6 +93,7 @@ pub fn fill(source: &[u8], target: &mut [u8])
     requires { length source.now ≤ length target.old }
     ensures { target.new ≡ padded (length target.old) source.now }
 {
-    let end = bytes::copy(source, target);
+    let end = source.len();
+    target[..end].copy_from_slice(source);
     clear(&mut target[end..]);
 }

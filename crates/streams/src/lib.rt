@@ -1,8 +1,9 @@
 // Standard input read to its end, and a text written whole: a failure is told apart from an end.
 #![tactic(auto)]
+
 ghost use Rattle.streams.specs.Streams.{ReadWithin};
 
-use libc::EINTR;
+use std::io::{Error, ErrorKind, Read, Write};
 
 // The most calls that one input or one text takes: one for each byte, and those that a signal interrupted.
 const MOST_CALLS: u32 = 1000000;
@@ -17,33 +18,37 @@ pub enum Input {
 }
 
 // Whether the call that just failed is to be made again: a signal came before it moved a byte.
-fn interrupted() -> bool {
-    os::errno() == EINTR
+fn interrupted(failure: &Error) -> bool {
+    failure.kind() == ErrorKind::Interrupted
 }
 
 // Reads until the input ends or the buffer is full; a read into no room answers 0, as at the end.
-pub fn read_all(fd: i32, buffer: &mut [u8]) -> Input
+pub fn read_all<R: Read>(input: &mut R, buffer: &mut [u8]) -> Input
     ensures { ReadWithin result buffer.new }
 {
     let mut done = 0;
     let mut calls = MOST_CALLS;
     while calls > 0 {
         calls -= 1;
-        let got = libc::read(fd, &mut buffer[done..]);
-        if got == 0 {
-            return Input::Read(done);
-        }
-        if got > 0 {
-            done += io::count(got, &buffer[done..]);
-        } else if !interrupted() {
-            return Input::Failed;
+        match input.read(&mut buffer[done..]) {
+            Ok(got) => {
+                if got == 0 {
+                    return Input::Read(done);
+                }
+                done += got;
+            }
+            Err(failure) => {
+                if !interrupted(&failure) {
+                    return Input::Failed;
+                }
+            }
         }
     }
     Input::Failed
 }
 
 // Writes all of a text, and answers whether it could.
-pub fn write_all(fd: i32, text: &[u8]) -> bool {
+pub fn write_all<W: Write>(output: &mut W, text: &[u8]) -> bool {
     let mut done = 0;
     let mut calls = MOST_CALLS;
     while calls > 0 {
@@ -51,14 +56,18 @@ pub fn write_all(fd: i32, text: &[u8]) -> bool {
         if done == text.len() {
             return true;
         }
-        let put = libc::write(fd, &text[done..]);
-        if put == 0 {
-            return false;
-        }
-        if put > 0 {
-            done += io::count(put, &text[done..]);
-        } else if !interrupted() {
-            return false;
+        match output.write(&text[done..]) {
+            Ok(put) => {
+                if put == 0 {
+                    return false;
+                }
+                done += put;
+            }
+            Err(failure) => {
+                if !interrupted(&failure) {
+                    return false;
+                }
+            }
         }
     }
     false

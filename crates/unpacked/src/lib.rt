@@ -1,5 +1,6 @@
 // Particles as one array of numbers: specs/ says how. Here is what reads it.
 #![tactic(auto)]
+
 ghost use Rattle.std.specs.Prelude.{◌≡◌, ◌<◌, length, get_or, pos, nat_abs};
 ghost use Rattle.unpacked.specs.Unpacked.{NaturalAt, ReadableAt, ReadsAt};
 

@@ -1,5 +1,6 @@
 // Drag: each node velocity u loses u·drag/256, rounded.
 #![tactic(auto)]
+
 ghost use Rattle.std.specs.Prelude.{◌≡◌, map, ◌≤◌};
 ghost use Rattle.arith.specs.Size.{Bound};
 ghost use Rattle.arith.specs.Sums.{Each};

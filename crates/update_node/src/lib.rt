@@ -1,5 +1,6 @@
 // One node of Update: its limits, and its velocity on one axis.
 #![tactic(auto)]
+
 ghost use Rattle.std.specs.Prelude.{◌≡◌, ◌≤◌, ◌^◌, pos, nat_abs};
 ghost use Rattle.arith.specs.Rounding.{rounded};
 ghost use Rattle.limits.specs.Limits.{most_node_mass, most_gravity};

@@ -1,6 +1,7 @@
 // The numbers of 64 bits that programs in other languages hand in and get: into the fields of a particle and of a header, where what
 // is too large stays too large; from results, as arrays; and an answer as one number.
 #![tactic(auto)]
+
 pub mod answer;
 mod narrow;
 
