@@ -1,5 +1,6 @@
 // Grids added to grids: the checks of every node, and then the sums.
 #![tactic(auto)]
+
 ghost use Rattle.std.specs.Prelude.{◌≡◌, ◌≤◌, length};
 ghost use Rattle.limits.specs.Limits.{most_node_mass};
 ghost use Rattle.apic.specs.Step.{grids_of};

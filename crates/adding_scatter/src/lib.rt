@@ -1,5 +1,6 @@
 // The adding scatter: a set is scattered on grids of its own, and these are added to those that are lent.
 #![tactic(auto)]
+
 ghost use Rattle.std.specs.Prelude.{◌*◌, ◌≤◌};
 ghost use Rattle.transfer.specs.Transfer.{told_scattered};
 ghost use Rattle.transfer.specs.Internal.{ScatterSet};

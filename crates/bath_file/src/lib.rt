@@ -1,6 +1,7 @@
 // A bath file: a header, then particle records. What reading it and writing a header do stands in specs/, what follows from it
 // in proofs/.
 #![tactic(auto)]
+
 use particles::SET_LENGTH;
 use refusal::Refusal;
 

@@ -1,6 +1,7 @@
 // The operations that have two callers, for programs in other languages: numbers and slices in, one number out, and values through
 // the caller's arrays. The exported functions of both callers are these; a run's is in crate coding.
 #![tactic(auto)]
+
 ghost use Rattle.std.specs.Prelude.{◌≡◌};
 ghost use Rattle.particles.specs.Set.{check_answer};
 ghost use Rattle.totals.specs.Totals.{totals_answer, sums};

@@ -1,6 +1,7 @@
 // The calls of the operations that have two callers, for the program `cases`: each reads its numbers and lists, and prints its
 // answer and what it may have changed. A value that a call may give is 7 before.
 #![tactic(auto)]
+
 pub mod records;
 
 use limits::Caller;

@@ -1,6 +1,7 @@
 // Runs the calls that standard input lists. It prints its input, and behind each call's line what the call answered and what it
 // may have changed. The head of the file `stdin` says how a line is written and what is printed.
 #![tactic(auto)]
+
 mod calls;
 mod names;
 

@@ -1,5 +1,6 @@
 // A run as programs in other languages see it: its answer as one number, and the completed steps through the caller's number.
 #![tactic(auto)]
+
 ghost use Rattle.apic.specs.Step.{grids_of};
 ghost use Rattle.settings.specs.Settings.{settings_with};
 ghost use Rattle.coding.specs.Runs.{RunTells};

@@ -1,5 +1,6 @@
 // The checks that an operation begins with, in the order of documents 01 and 02, by who calls it; and Check a set.
 #![tactic(auto)]
+
 pub mod checks;
 
 ghost use Rattle.std.specs.Prelude.{◌≡◌, length};

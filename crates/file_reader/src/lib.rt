@@ -1,5 +1,6 @@
 // The file reader: the header of a bath file, and then its records.
 #![tactic(auto)]
+
 ghost use Rattle.std.specs.Prelude.{◌≡◌, length};
 ghost use Rattle.refusal.specs.Refused.{gives};
 ghost use Rattle.limits.specs.declared.Caller.TheVariants.{Bench};

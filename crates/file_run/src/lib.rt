@@ -1,5 +1,6 @@
 // The run that a file's header asks for, on the first nodes of grids that have room for any run.
 #![tactic(auto)]
+
 ghost use Rattle.std.specs.Prelude.{◌≡◌, ◌*◌, ◌≤◌};
 ghost use Rattle.apic.specs.Limits.{SizeLimits};
 ghost use Rattle.apic.specs.Step.{grids_of};

@@ -1,5 +1,6 @@
 // Grid-to-particle transfer of a set of records.
 #![tactic(auto)]
+
 ghost use Rattle.std.specs.Prelude.{◌≡◌, ◌*◌, ◌≤◌, length};
 ghost use Rattle.spline.specs.Spline.{axis_weight};
 ghost use Rattle.particle.specs.Layout.{record_length};

@@ -1,5 +1,6 @@
 // The grid-to-particle transfer on unpacked particles: every particle of a set gathered, moved, checked and stored.
 #![tactic(auto)]
+
 ghost use Rattle.std.specs.Prelude.{◌+◌, ◌*◌, ◌/◌, ◌<◌, ◌≤◌, length};
 ghost use Rattle.limits.specs.Limits.{most_records};
 ghost use Rattle.spline.specs.Kernel.{weight_in};

@@ -1,5 +1,6 @@
 // What a gather checks before any particle moves: sizes, records, buffers, and the velocity of every node.
 #![tactic(auto)]
+
 ghost use Rattle.std.specs.Prelude.{◌≡◌, length};
 ghost use Rattle.refusal.specs.Refused.{told_of};
 ghost use Rattle.entry.specs.Entry.{told_begun};

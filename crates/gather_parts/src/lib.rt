@@ -1,5 +1,6 @@
 // Grid-to-particle transfer of a set of records, part by part.
 #![tactic(auto)]
+
 ghost use Rattle.spline.specs.Kernel.{weight_in};
 ghost use Rattle.transfer.specs.Internal.{PartsMovable, MovedFrom};
 

@@ -1,6 +1,7 @@
 // The operations for programs in other languages: numbers and slices in, one number out, and values through the caller's arrays.
 // Those that have two callers are the bench's here and the lesson page's in `page`. include/gondwize.h declares them for C.
 #![tactic(auto)]
+
 pub mod page;
 
 ghost use Rattle.std.specs.Prelude.{◌≡◌};

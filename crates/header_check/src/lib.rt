@@ -1,5 +1,6 @@
 // The values of a header, checked against their limits, which depend on who calls.
 #![tactic(auto)]
+
 ghost use Rattle.std.specs.Prelude.{◌≡◌};
 ghost use Rattle.refusal.specs.Refused.{gives};
 ghost use Rattle.bath_file.specs.File.{checked_header, told_read};

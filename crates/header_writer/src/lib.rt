@@ -1,5 +1,6 @@
 // The header writer: a header's values into its bytes.
 #![tactic(auto)]
+
 ghost use Rattle.std.specs.Prelude.{◌≡◌, [], ◌∷◌, length};
 ghost use Rattle.refusal.specs.Refused.{gives};
 ghost use Rattle.limits.specs.declared.Caller.TheVariants.{Bench};

@@ -1,6 +1,7 @@
 // An array of numbers back into a particle set's records. Identifiers and marks stay in the records: whoever packs a set packs
 // it into the records that it was unpacked from.
 #![tactic(auto)]
+
 ghost use Rattle.std.specs.Prelude.{◌≡◌, ◌+◌, ◌*◌, ◌/◌, ◌≤◌, length};
 ghost use Rattle.particle.specs.Layout.{record_length};
 ghost use Rattle.unpacked.specs.Unpacked.{per_particle};

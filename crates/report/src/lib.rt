@@ -1,6 +1,7 @@
 // A report: what the program has to tell, and the answer of whoever puts it into a buffer. What is put there stands in specs/, what
 // follows from it in proofs/.
 #![tactic(auto)]
+
 use limits::MOST_RECORDS;
 use refusal::Refusal;
 use totals::Totals;

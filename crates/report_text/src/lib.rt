@@ -1,5 +1,6 @@
 // The text that the program prints, put into a buffer as a whole.
 #![tactic(auto)]
+
 ghost use Rattle.std.specs.Prelude.{◌≡◌, true, ◌+◌, ◌*◌, ◌≤◌, length};
 ghost use Rattle.particle.specs.Layout.{record_length};
 ghost use Rattle.particle.specs.Record.{particle_of};

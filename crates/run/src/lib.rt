@@ -1,5 +1,6 @@
 // A step and a run of a particle set.
 #![tactic(auto)]
+
 ghost use Rattle.std.specs.Prelude.{◌*◌, ◌≤◌, length};
 ghost use Rattle.particle.specs.Layout.{record_length};
 ghost use Rattle.apic.specs.Step.{grids_of};

@@ -1,5 +1,6 @@
 // The steps of a run, back and forth between two arrays of unpacked particles.
 #![tactic(auto)]
+
 ghost use Rattle.spline.specs.Kernel.{weight_in};
 ghost use Rattle.apic.specs.Step.{grids_of};
 ghost use Rattle.simulation.specs.Internal.{StepReady, Turns, Repeats, current, other};

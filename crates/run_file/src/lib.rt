@@ -1,5 +1,6 @@
 // The program as a function: from the bytes of a file to the whole text that is printed.
 #![tactic(auto)]
+
 ghost use Rattle.std.specs.Prelude.{◌≡◌, true, ◌≤◌, length};
 ghost use Rattle.refusal.specs.Refused.{number, place};
 ghost use Rattle.apic.specs.Step.{grids_of};

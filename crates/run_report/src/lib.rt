@@ -1,5 +1,6 @@
 // The report of a run, from the records that it left: their totals, and the text.
 #![tactic(auto)]
+
 ghost use Rattle.std.specs.Prelude.{◌≡◌, true, ◌≤◌, length};
 ghost use Rattle.refusal.specs.Refused.{gives};
 ghost use Rattle.limits.specs.declared.Caller.TheVariants.{Bench};

@@ -1,5 +1,6 @@
 // A run from records to records: unpacked once, stepped, packed once.
 #![tactic(auto)]
+
 ghost use Rattle.std.specs.Prelude.{◌≡◌, ◌*◌, ◌/◌, ◌≤◌, length};
 ghost use Rattle.particle.specs.Layout.{record_length};
 ghost use Rattle.particles.specs.Set.{record_count};

@@ -1,5 +1,6 @@
 // Particle-to-grid transfer of a set of records.
 #![tactic(auto)]
+
 ghost use Rattle.std.specs.Prelude.{◌≡◌, ◌*◌, length};
 ghost use Rattle.refusal.specs.Refused.{gives, and_then};
 ghost use Rattle.spline.specs.Spline.{axis_weight, D};

@@ -1,5 +1,6 @@
 // The particle-to-grid transfer on unpacked particles. A scatter clears the grids and adds the particle set to them.
 #![tactic(auto)]
+
 ghost use Rattle.scatter_core.specs.Scatter.{SetReady, ScatterReady, NthReady, AddsNth, Adds, Scatters};
 
 use unpacked::NUMBERS;

@@ -1,6 +1,7 @@
 // The program on its streams: an input read, run and reported.
 // Standard error gets one line where the file is refused, or the input or the report fails; `run` answers with it.
 #![tactic(auto)]
+
 ghost use Rattle.std.specs.Prelude.{◌≤◌, length};
 
 use bath_file::FILE_ROOM;

@@ -1,5 +1,6 @@
 // Reads a bath file from standard input, runs it and prints the report of document 01's "The program".
 #![tactic(auto)]
+
 use bath_file::FILE_ROOM;
 use program::MOST_NODES;
 use report::REPORT_LENGTH;

@@ -1,5 +1,6 @@
 // The answers of a step and a run. What they do stands in specs/, what follows from it in proofs/.
 #![tactic(auto)]
+
 use refusal::Refusal;
 
 // The answer of a step.

@@ -1,5 +1,6 @@
 // A step on unpacked particles.
 #![tactic(auto)]
+
 ghost use Rattle.spline.specs.Kernel.{weight_in};
 ghost use Rattle.simulation.specs.Internal.{StepReady, Steps};
 

@@ -1,6 +1,7 @@
 // A store of baths: a lent buffer that holds up to four bath files, each under a name. Its form, what the operations on it do and
 // what follows stand in specs/, the proofs in proofs/.
 #![tactic(auto)]
+
 use bath_file::HEADER_LENGTH;
 use particles::SET_LENGTH;
 use refusal::Refusal;

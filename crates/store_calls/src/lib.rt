@@ -1,5 +1,6 @@
 // Keep, return and forget: a bath file into a store under a name, out of it again, and gone.
 #![tactic(auto)]
+
 ghost use Rattle.std.specs.Prelude.{◌≡◌, ◌&&◌, leb};
 ghost use Rattle.refusal.specs.Refused.{done};
 ghost use Rattle.store.specs.Form.{most_file, valid_store};

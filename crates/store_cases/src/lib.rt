@@ -1,6 +1,7 @@
 // The calls of keep, return and forget, for the program `cases`: each reads a name, and prints its answer and what it may have
 // changed.
 #![tactic(auto)]
+
 use limits::Caller;
 use lines::lists::{NODES, octets, within};
 use lines::print;

@@ -1,5 +1,6 @@
 // The form of a store: each place by itself, and that no name stands in two.
 #![tactic(auto)]
+
 ghost use Rattle.std.specs.Prelude.{◌≡◌, ◌+◌, ◌≤◌, ◌<◌, length, drop};
 ghost use Rattle.bath_file.specs.Layout.{header_length};
 ghost use Rattle.store.specs.Names.{valid_held_name};

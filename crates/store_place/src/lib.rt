@@ -1,5 +1,6 @@
 // One place of a store: where a name stands, and a place written, read and cleared.
 #![tactic(auto)]
+
 ghost use Rattle.std.specs.Prelude.{◌≡◌, ◌++◌, ◌≤◌, ◌<◌, length, drop};
 ghost use Rattle.store.specs.Names.{name_length};
 ghost use Rattle.store.specs.Form.{most_file, place_length, place_count, store_length, file_in, place_at, place_of};

@@ -1,5 +1,6 @@
 // The totals of a set, and the answer of Totals. What they are stands in specs/, what follows from it in proofs/.
 #![tactic(auto)]
+
 use refusal::Refusal;
 
 // How many sums there are.

@@ -1,5 +1,6 @@
 // Totals: the sums over a particle set whose records are checked on the way.
 #![tactic(auto)]
+
 ghost use Rattle.std.specs.Prelude.{◌≡◌, ◌+◌, ◌*◌, ◌≤◌, ◌<◌, length};
 ghost use Rattle.limits.specs.Limits.{most_records};
 ghost use Rattle.particle.specs.Layout.{record_length};

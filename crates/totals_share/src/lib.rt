@@ -1,5 +1,6 @@
 // One particle's share of the totals, two totals added, and totals as an array.
 #![tactic(auto)]
+
 ghost use Rattle.std.specs.Prelude.{◌≡◌, ◌+ℤ◌, ◌-ℤ◌, ◌*ℤ◌};
 ghost use Rattle.totals.specs.Totals.{sums};
 ghost use Rattle.totals.specs.Share.{share, plus};

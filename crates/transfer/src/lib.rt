@@ -1,5 +1,6 @@
 // The answers of scatter and gather. What they do stands in specs/, what follows from it in proofs/.
 #![tactic(auto)]
+
 use particle::RECORD_LENGTH;
 use refusal::Refusal;
 use unpacked::NUMBERS;

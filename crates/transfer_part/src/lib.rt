@@ -1,5 +1,6 @@
 // Some records of a set, unpacked and scattered, or unpacked and gathered.
 #![tactic(auto)]
+
 ghost use Rattle.std.specs.Prelude.{◌≡◌, ◌*◌, length};
 ghost use Rattle.spline.specs.Kernel.{weight_in};
 ghost use Rattle.particles.specs.Set.{record_count, particles_in};

@@ -1,5 +1,6 @@
 // A particle set's records into one array of numbers.
 #![tactic(auto)]
+
 ghost use Rattle.std.specs.Prelude.{◌≡◌, ◌+◌, ◌*◌, ◌≤◌, length};
 ghost use Rattle.arith.specs.Lists.{placed};
 ghost use Rattle.particle.specs.Layout.{record_length};

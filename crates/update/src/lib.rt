@@ -1,5 +1,6 @@
 // The answer of update. What it does stands in specs/, what follows from it in proofs/.
 #![tactic(auto)]
+
 use refusal::Refusal;
 
 #[derive(Drop)]

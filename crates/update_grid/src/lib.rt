@@ -1,5 +1,6 @@
 // The update of a grid's nodes: velocity takes the momentum's place, after gravity, drag and rim.
 #![tactic(auto)]
+
 ghost use Rattle.std.specs.Prelude.{◌≡◌, ◌≤◌, length, nat_abs};
 ghost use Rattle.limits.specs.Limits.{most_gravity};
 ghost use Rattle.spline.specs.Kernel.{Spread};

@@ -1,5 +1,6 @@
 // The rim: node velocities that the edge holds become 0.
 #![tactic(auto)]
+
 ghost use Rattle.std.specs.Prelude.{◌≡◌, ◌+◌, ◌≤◌, length, ◌||◌};
 ghost use Rattle.apic.specs.Step.{along_x, along_y};
 ghost use Rattle.update_rim.specs.Internal.{cleared, in_part, in_columns, in_rows, held_at, BandRoom, RimRoom};
