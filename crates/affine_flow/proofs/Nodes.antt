@@ -15,7 +15,8 @@ use lib.IntN.{ℤ, pos, nat_abs, ◌+ℤ◌, ◌-ℤ◌, ◌*ℤ◌, +ℤ_idr}
 use lib.Signed.{◌<ℤ◌}
 use Rattle.arith.specs.Order.{nonneg_pos, pos-positive, *ℤ-cancel-equal}
 use Rattle.arith.specs.Solver.{ring, quote}
-use Rattle.arith.specs.Rounding.{halves_even, rounded, nearest-exact}
+use Rattle.arith.specs.Rounding.{halves_even, rounded}
+use Rattle.arith.proofs.Rounding.{nearest-exact}
 use Rattle.arith.specs.Sums.{Each, sum-cong-each, sum-scale-right}
 use Rattle.particle.specs.declared.Particle.{Particle}
 use Rattle.apic.specs.Step.{Axis, along_x, along_y, velocity, affine, apart, weight, node_mass, carried, node_momentum, node_velocity, gathered_velocity, gathered_affine}

@@ -12,7 +12,8 @@ use native.Mathlib.Omega.{arith}
 use lib.IntN.{ℤ, pos, nat_abs, ◌+ℤ◌, ◌-ℤ◌, ◌*ℤ◌, *ℤ-zero}
 use lib.Signed.{pos-nat_abs}
 use Rattle.arith.specs.Solver.{ring, quote}
-use Rattle.arith.specs.Rounding.{rounded, rounded-error}
+use Rattle.arith.specs.Rounding.{rounded}
+use Rattle.arith.proofs.Rounding.{rounded-error}
 use Rattle.arith.specs.Sums.{Each}
 use Rattle.particle.specs.declared.Particle.{Particle}
 use Rattle.settings.specs.declared.Settings.{Settings}

@@ -25,7 +25,8 @@ use mir.Syntax.{w64}
 use mir.Val.{SFits}
 use Rattle.arith.specs.Order.{Within, ≤ℤ-trans, ≤ℤ-of-eq, pos-mono, pos-nonneg, *ℤ-mono-left, nonneg_pos, within-scale, within-sum, within-widen, within-zero}
 use Rattle.arith.specs.Size.{Bound, sizes, bounded-by, bound-pos, bound-fits, bound-widen, bound-within, within-bound}
-use Rattle.arith.specs.Rounding.{Nearest, near-bound}
+use Rattle.arith.specs.Rounding.{Nearest}
+use Rattle.arith.proofs.Rounding.{near-bound}
 use Rattle.arith.specs.Lists.{each-prefix, total-prefix}
 use Rattle.arith.specs.Sums.{Each, sum-scale, sum-within}
 use Rattle.limits.specs.Limits.{most_velocity, most_affine, most_total_mass, most_node_mass, most_node_velocity, most_gravity}

@@ -12,7 +12,8 @@ use lib.IntN.{ℤ, pos, nat_abs, ◌+ℤ◌, ◌*ℤ◌, +ℤ_idl, +ℤ_idr, *�
 use Rattle.arith.specs.Order.{linear, reading}
 use Rattle.arith.specs.Size.{bound-within}
 use Rattle.arith.specs.Solver.{ring, quote}
-use Rattle.arith.specs.Rounding.{halves_even, rounded, nearest-exact, rounded-error, even-unique}
+use Rattle.arith.specs.Rounding.{halves_even, rounded}
+use Rattle.arith.proofs.Rounding.{nearest-exact, rounded-error, even-unique}
 use Rattle.arith.specs.Sums.{Each, sum-zero, each_map}
 use Rattle.particle.specs.declared.Particle.{Particle}
 use Rattle.settings.specs.declared.Settings.{Settings}

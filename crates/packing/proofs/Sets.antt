@@ -14,7 +14,6 @@ use lib.Seq.{drop-drop}
 use lib.IntN.{ℤ}
 use Rattle.particle.specs.declared.Particle.{Particle}
 use Rattle.particle.specs.Layout.{record_length}
-use Rattle.particle.specs.Layout as field
 use Rattle.particle.specs.Record.{label, particle_of, record_of, Valid}
 use Rattle.particles.specs.Set.{record_count, records_of, particle_in, particles_in}
 use Rattle.particles.proofs.Accepted.{particle-valid}

@@ -12,7 +12,8 @@ use lib.ListN.{replicate}
 use lib.IntN.{ℤ, pos, ◌+ℤ◌, ◌-ℤ◌, ◌*ℤ◌}
 use Rattle.arith.specs.Order.{Within, linear, reading, ◌&◌, nothing}
 use Rattle.arith.specs.Solver.{ring, quote}
-use Rattle.arith.specs.Rounding.{rounded, rounded-error}
+use Rattle.arith.specs.Rounding.{rounded}
+use Rattle.arith.proofs.Rounding.{rounded-error}
 use Rattle.arith.specs.Lists.{each_append}
 use Rattle.arith.specs.Sums.{Each, sum_over, sum-cong-each, sum-scale}
 use Rattle.spline.specs.Spline.{axis_weight, D}

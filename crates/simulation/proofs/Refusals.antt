@@ -16,7 +16,8 @@ use lib.IntN.{ℤ, pos, nat_abs}
 use lib.Signed.{◌≤ℤ◌}
 use Rattle.arith.specs.Order.{nonneg_pos, pos-cancel}
 use Rattle.arith.specs.Indices.{column-below, line-below}
-use Rattle.arith.specs.Rounding.{rounded, rounded-error}
+use Rattle.arith.specs.Rounding.{rounded}
+use Rattle.arith.proofs.Rounding.{rounded-error}
 use Rattle.arith.specs.Sums.{Each, up_to, each-up_to}
 use Rattle.refusal.specs.Refused.{Answer, gives, refused, refuse_if, done}
 use Rattle.refusal.proofs.Answers.{not-refused}

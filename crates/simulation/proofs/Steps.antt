@@ -16,7 +16,8 @@ use lib.Dec.{T}
 use lib.IntN.{ℤ, pos, ◌+ℤ◌, ◌-ℤ◌, ◌*ℤ◌}
 use lib.Signed.{◌≤ℤ◌, non_neg, pos-nat_abs}
 use Rattle.arith.specs.Order.{Within, pos-nonneg}
-use Rattle.arith.specs.Rounding.{rounded, rounded-error}
+use Rattle.arith.specs.Rounding.{rounded}
+use Rattle.arith.proofs.Rounding.{rounded-error}
 use Rattle.arith.specs.Sums.{Each, each_map, total-same}
 use Rattle.refusal.specs.Refused.{Answer, gives}
 use Rattle.particle.specs.declared.Particle.{Particle}

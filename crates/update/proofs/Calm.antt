@@ -8,7 +8,8 @@ use lib.Dec.{leb}
 use lib.IntN.{ℤ, pos, nat_abs}
 use borrow.Author.Tests.{leb-true}
 use Rattle.arith.specs.Size.{Bound, bound-sum}
-use Rattle.arith.specs.Rounding.{rounded, rounded-bound}
+use Rattle.arith.specs.Rounding.{rounded}
+use Rattle.arith.proofs.Rounding.{rounded-bound}
 use Rattle.limits.specs.Limits.{most_node_mass, most_node_velocity, most_gravity}
 use Rattle.spline.specs.Kernel.{Spread}
 use Rattle.apic.specs.Step.{node_velocity}

@@ -5,7 +5,8 @@ use lib.Dec.{lit<}
 use mir.Val.{hbits}
 use Rattle.arith.specs.Size.{Bound, bound-equal}
 use Rattle.arith.specs.Machine.{read, read_result}
-use Rattle.arith.specs.Rounding.{rounded, rounded-bound}
+use Rattle.arith.specs.Rounding.{rounded}
+use Rattle.arith.proofs.Rounding.{rounded-bound}
 use Rattle.gather_point.specs.Point.{affine_velocity_of, moment_about, most_gathered}
 use Rattle.gather_point.proofs.affine_velocity.Goals as goal
 

@@ -7,7 +7,8 @@ use mir.Val.{SFits}
 use Rattle.arith.specs.Order.{linear, reading, nothing}
 use Rattle.arith.specs.Size.{Bound, fits, sizes}
 use Rattle.arith.specs.Machine.{lowest-bit}
-use Rattle.arith.specs.Rounding.{parity, rounded, parity-bound, rounded-shift}
+use Rattle.arith.specs.Rounding.{parity, rounded}
+use Rattle.arith.proofs.Rounding.{parity-bound, rounded-shift}
 use Rattle.gather_round.proofs.rounded.Goals as goal
 
 -- 2, or 1 where the floor is odd

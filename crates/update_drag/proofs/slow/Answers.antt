@@ -2,7 +2,8 @@
 use Rattle.std.proofs.Common.{◌≡◌, ℕ, ◌+◌, ◌<◌, List, [], ◌∷◌, map, length, get_or, set, ℤ, pos, w64, to_z, of_z, FitsSigned, refl, sym, ap, ap₂, ◌∙◌, subst, rules, arith}
 use mir.Facts.{to_z-of_z}
 use Rattle.arith.specs.Size.{Bound}
-use Rattle.arith.specs.Rounding.{rounded, rounded-error}
+use Rattle.arith.specs.Rounding.{rounded}
+use Rattle.arith.proofs.Rounding.{rounded-error}
 use Rattle.arith.specs.Lists.{each_at, mapped}
 use Rattle.arith.specs.Fill.{filled, filled_none, filled-read, filled_more, filled-all}
 use Rattle.limits.specs.Limits.{most_node_velocity}

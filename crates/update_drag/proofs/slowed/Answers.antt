@@ -5,7 +5,8 @@ use lib.Signed.{shr_z}
 use mir.Facts.{to_z-of_z}
 use Rattle.arith.specs.Machine.{read-natural, lowest-bit}
 use Rattle.arith.specs.Size.{Bound, fits, sizes}
-use Rattle.arith.specs.Rounding.{parity, rounded, parity-bound, rounded-shift}
+use Rattle.arith.specs.Rounding.{parity, rounded}
+use Rattle.arith.proofs.Rounding.{parity-bound, rounded-shift}
 use Rattle.limits.specs.Limits.{most_node_velocity, most_drag}
 use Rattle.apic.specs.Step.{after_drag}
 use Rattle.update_drag.proofs.slowed.Goals as goal

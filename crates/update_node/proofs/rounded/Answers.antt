@@ -2,7 +2,8 @@
 use Rattle.std.proofs.Common.{◌≡◌, ℕ, suc, ◌+◌, ◌<◌, true, ℤ, pos, negsuc, neg_ℤ, nat_abs, ◌-ℤ◌, w64, to_z, of_z, FitsSigned, sym, ap, ◌∙◌}
 use native.Mathlib.Numerals.{add-one}
 use lib.Signed.{lt_z}
-use Rattle.arith.specs.Rounding.{rounded, rounded-odd}
+use Rattle.arith.specs.Rounding.{rounded}
+use Rattle.arith.proofs.Rounding.{rounded-odd}
 use Rattle.update_node.proofs.Sizes.{positive, sign, less-size, negated, negated_size}
 use Rattle.update_node.proofs.rounded.Goals as goal
 

@@ -1,7 +1,7 @@
 -- `update_node::rounded_size`, by `rounded-up` and `rounded-down`. Assumes nothing.
 use Rattle.std.proofs.Common.{ℕ, ◌/◌, ◌^◌, ◌≤◌, sym, arith}
 use native.Mathlib.Nat.{div-le_of_le-mul}
-use Rattle.arith.specs.Rounding.{rounded-up, rounded-down}
+use Rattle.arith.proofs.Rounding.{rounded-up, rounded-down}
 use Rattle.update_node.specs.Internal.{Divisor}
 use Rattle.update_node.proofs.Sizes.{positive}
 use Rattle.update_node.proofs.rounded_size.Goals as goal
