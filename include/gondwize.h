@@ -1,7 +1,7 @@
 /*
  * Gondwize: two-dimensional APIC (affine particle-in-cell) in whole numbers.
  *
- * Link target/staticlib/libgondwize.a, which `rt staticlib gondwize` writes.
+ * Link target/staticlib/libgondwize.a, which `tools/library` writes.
  *
  * Slices. A slice is a pointer and its number of elements. The pointer is aligned for its type and
  * leads to as many initialised elements as the number says; where the number is 0 nothing is read or

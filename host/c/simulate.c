@@ -1,6 +1,6 @@
 /*
  * Runs a bath file from standard input and prints its report.
- * Build, from the repository's root, after `rt staticlib gondwize`:
+ * Build, from the repository's root, after `tools/library`:
  *     cc -Iinclude host/c/simulate.c target/staticlib/libgondwize.a -o simulate
  */
 #include <inttypes.h>

@@ -1,4 +1,4 @@
-//! Links the static library of the proved crates, which `rt staticlib` writes, and fails where it is missing or older
+//! Links the static library of the proved crates, which `tools/library` writes, and fails where it is missing or older
 //! than what it is made from.
 
 use std::collections::{BTreeMap, BTreeSet};
@@ -7,8 +7,9 @@ use std::fs;
 use std::path::{Path, PathBuf};
 use std::time::SystemTime;
 
-/// The crate whose functions the library has.
+/// The library, and the crate whose functions it has.
 const LIBRARY: &str = "gondwize";
+const CRATE: &str = "gondwize_c";
 
 /// The folders of a crate that are proved and compiled.
 const PARTS: [&str; 3] = ["src", "specs", "proofs"];
@@ -17,8 +18,10 @@ const PARTS: [&str; 3] = ["src", "specs", "proofs"];
 fn crates_of(name: &str, list: &str) -> BTreeSet<String> {
     let line = |line: &str| {
         let (name, needs) = line.split('#').next()?.split_once(':')?;
+        // A static library has that word behind its name.
+        let name = name.split_whitespace().next()?;
         let needs = needs.split_whitespace().map(str::to_owned);
-        Some((name.trim().to_owned(), needs.collect()))
+        Some((name.to_owned(), needs.collect()))
     };
     let needs: BTreeMap<String, Vec<String>> = list.lines().filter_map(line).collect();
     let (mut reached, mut next) = (BTreeSet::new(), vec![name.to_owned()]);
@@ -56,17 +59,17 @@ fn main() {
     let list = root.join("crates.txt");
     let folder = root.join("target/staticlib");
     let library = folder.join(format!("lib{LIBRARY}.a"));
-    let remedy = format!("run `rt staticlib {LIBRARY}` in the repository's root");
+    let remedy = "run `tools/library` in the repository's root";
     assert!(
         library.exists(),
         "{} is missing: {remedy} first",
         library.display()
     );
 
-    let names = crates_of(LIBRARY, &fs::read_to_string(&list).expect("crates.txt"));
+    let names = crates_of(CRATE, &fs::read_to_string(&list).expect("crates.txt"));
     assert!(
-        names.contains(LIBRARY),
-        "crates.txt has no line for {LIBRARY}"
+        names.contains(CRATE),
+        "crates.txt has no line for {CRATE}"
     );
     let crates = names.iter().map(|name| root.join("crates").join(name));
     let crates: Vec<PathBuf> = crates.collect();

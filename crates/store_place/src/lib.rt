@@ -59,7 +59,8 @@ pub fn copy_file(store: &[u8], k: usize, buffer: &mut [u8]) -> usize
     let at = PLACE_LENGTH * k + NAME_LENGTH;
     let room = &store[at..at + MOST_FILE];
     let end = store_form::file_length(room);
-    bytes::copy(&room[..end], buffer)
+    buffer[..end].copy_from_slice(&room[..end]);
+    end
 }
 
 // Clears place k of a store. Crate store_calls calls it with the place that has a name.

@@ -74,7 +74,7 @@ fn a_stale_library_fails_the_build() {
     builds(&room);
 
     fs::remove_file(library()).expect("a library");
-    fails(&room, "is missing: run `rt staticlib");
+    fails(&room, "is missing: run `tools/library");
 }
 
 /// A checkout that is copied with its builds looks at its own library, and not at the first one's.

@@ -12,18 +12,19 @@ use program::{ended, root, Ended, Room};
 
 const PROVING: &str =
     "gondwize: proving and building what has changed of 2 crates (all of them: some minutes)\n";
-const PART: &str = "gondwize: crate 1 of 2: part proved (2 s)\n";
-const PROGRAM: &str = "gondwize: crate 2 of 2: simulate proved (2 s)\n";
+const PART: &str = "gondwize: crate 1 of 2: part proved\n";
+const PROGRAM: &str = "gondwize: crate 2 of 2: simulate proved\n";
 
 /// Longer than the grain of a file's time.
 const TICK: Duration = Duration::from_millis(50);
 
 /// The tools that `run` calls, and those of the stand-in; rt is not among them.
-const TOOLS: [&str; 19] = [
+const TOOLS: [&str; 20] = [
     "bash",
     "env",
     "sh",
     "cat",
+    "cp",
     "mv",
     "rm",
     "mkdir",
@@ -52,7 +53,7 @@ impl Small {
         room.copy("run");
         room.write(
             "crates.txt",
-            "# NAME: DEP DEP ..\nsimulate: part io libc # the program\npart:\nother: part\n",
+            "# NAME: DEP DEP ..\nsimulate: part io # the program\npart:\nother: part\n",
         );
         room.write("crates/part/src/lib.rt", "first part\n");
         room.write("crates/simulate/src/main.rt", "first program\n");
@@ -180,7 +181,7 @@ fn a_program_or_a_library_that_is_gone() {
         &format!("{PROVING}{PROGRAM}"),
         3,
     );
-    fs::remove_file(small.path("target/rlib/part.rlib")).expect("a library");
+    fs::remove_file(small.path("crates/part/out/part")).expect("a library");
     small.shows("first part\nfirst program\n", "", 3);
     small
         .room
@@ -190,7 +191,9 @@ fn a_program_or_a_library_that_is_gone() {
         &format!("{PROVING}{PART}{PROGRAM}"),
         4,
     );
-    fs::remove_dir_all(small.path("target")).expect("a folder");
+    for made in ["target", "crates/part/out", "crates/simulate/out"] {
+        fs::remove_dir_all(small.path(made)).expect("a folder");
+    }
     small.shows(
         "first part\nsecond program\n",
         &format!("{PROVING}{PART}{PROGRAM}"),
@@ -216,7 +219,7 @@ fn another_folder_of_crates() {
     }
     small.shows(
         "first part\nsecond program\n",
-        &format!("{PROVING}{PROGRAM}"),
+        &format!("{PROVING}{PART}{PROGRAM}"),
         2,
     );
 }
@@ -249,9 +252,9 @@ fn a_proof_that_fails() {
     small
         .room
         .write("crates/simulate/src/main.rt", "WRONG program\n");
-    let rt = "rt: part proved (unchanged since it was last proved)\n\
-              crates/simulate/src: error: a goal is left\n\
-              rt: simulate NOT PROVED (exit 1, 2 s)\n";
+    let rt = "crates/simulate/src: error: a goal is left\n\
+              crate simulate: modules loaded=0 checked=1\n\
+              logic=not-proved\n";
     let end = "gondwize: the program could not be proved and built: what rt said stands above\n";
     for calls in [2, 3] {
         let told = ended(&mut small.command(true));
@@ -336,7 +339,9 @@ fn a_call_that_waits() {
 
 /// A program of one line for rt itself, and what it writes.
 fn small_program(room: &Room, line: &str) {
-    let source = format!("fn main() {{\n    io::write_all(1, b\"{line}\\n\");\n}}\n");
+    let source = format!(
+        "use std::io;\n\nfn main(rt: HostRuntime) -> io::Result<()> {{\n    println!(rt; \"{line}\")\n}}\n"
+    );
     room.write("crates/simulate/src/main.rt", source);
     room.write("crates/simulate/stdout", format!("{line}\n"));
 }
@@ -346,7 +351,7 @@ fn small_program(room: &Room, line: &str) {
 fn by_rt_itself() {
     let room = Room::new("itself");
     room.copy("run");
-    room.write("crates.txt", "simulate: part io libc\npart:\n");
+    room.write("crates.txt", "simulate: part\npart:\n");
     room.write("crates/part/src/lib.rt", "// Nothing.\n");
     small_program(&room, "first");
     let mut run = Command::new(room.path("run"));
@@ -370,8 +375,8 @@ fn by_rt_itself() {
         );
     };
     let [part, program] = [
-        "gondwize: crate 1 of 2: part proved (",
-        "gondwize: crate 2 of 2: simulate proved (",
+        "gondwize: crate 1 of 2: part proved",
+        "gondwize: crate 2 of 2: simulate proved",
     ];
     let proving = PROVING.trim_end();
     shows("first\n", &[proving, part, program]);
@@ -385,7 +390,7 @@ fn by_rt_itself() {
     let told = ended(&mut run);
     assert_eq!((told.status, &told.wrote[..]), (Some(3), ""));
     assert!(
-        told.said.contains("rt: simulate NOT PROVED") && told.said.contains("nothing"),
+        told.said.contains("error") && told.said.contains("nothing"),
         "{}",
         told.said
     );
