@@ -13,7 +13,7 @@ pub const FILE_ROOM: usize = HEADER_LENGTH + SET_LENGTH + 1;
 
 // The grid's size in nodes, gravity in 256ths of a velocity unit per step, the number of records, the number of steps, the kind of
 // the edge (0 open, 1 sticky, 2 slip) and its width in nodes, and drag in 256ths of a node's velocity.
-#[derive(Drop)]
+#[derive(Clone, Copy)]
 pub struct Header {
     pub nx: usize,
     pub ny: usize,
