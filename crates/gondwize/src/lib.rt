@@ -31,8 +31,7 @@ use store::{Changed, Returned};
 use wide::answer;
 
 // Read a record: eleven values.
-#[unsafe(no_mangle)]
-pub extern "C" fn gondwize_read_record(bytes: &[u8], values: &mut [i64; NUMBERS]) -> u64
+pub fn gondwize_read_record(bytes: &[u8], values: &mut [i64; NUMBERS]) -> u64
     ensures { Gives (read_answer 0 bytes.now) numbers values.old result values.new }
 {
     match record_reader::read_record(bytes) {
@@ -45,8 +44,7 @@ pub extern "C" fn gondwize_read_record(bytes: &[u8], values: &mut [i64; NUMBERS]
 }
 
 // Write a record.
-#[unsafe(no_mangle)]
-pub extern "C" fn gondwize_write_record(
+pub fn gondwize_write_record(
     identifier: u16,
     mass: u64,
     x: u64,
@@ -71,16 +69,14 @@ pub extern "C" fn gondwize_write_record(
 }
 
 // Check a set: one value, the number of records.
-#[unsafe(no_mangle)]
-pub extern "C" fn gondwize_check_set(nx: usize, ny: usize, records: &[u8], count: &mut u64) -> u64
+pub fn gondwize_check_set(nx: usize, ny: usize, records: &[u8], count: &mut u64) -> u64
     ensures { Gives (check_answer Bench nx ny records.now) (λ n. n) count.old result count.new }
 {
     by_caller::check_set(Caller::Bench, nx, ny, records, count)
 }
 
 // Totals: six values.
-#[unsafe(no_mangle)]
-pub extern "C" fn gondwize_totals(
+pub fn gondwize_totals(
     nx: usize,
     ny: usize,
     records: &[u8],
@@ -92,8 +88,7 @@ pub extern "C" fn gondwize_totals(
 }
 
 // Weights: three values.
-#[unsafe(no_mangle)]
-pub extern "C" fn gondwize_weights(q: i64, values: &mut [i64; 3]) -> u64
+pub fn gondwize_weights(q: i64, values: &mut [i64; 3]) -> u64
     ensures { Gives (weights_answer q) weight_values values.old result values.new }
 {
     match spline::weights(q) {
@@ -106,8 +101,7 @@ pub extern "C" fn gondwize_weights(q: i64, values: &mut [i64; 3]) -> u64
 }
 
 // Scatter.
-#[unsafe(no_mangle)]
-pub extern "C" fn gondwize_scatter(
+pub fn gondwize_scatter(
     nx: usize,
     ny: usize,
     records: &[u8],
@@ -123,8 +117,7 @@ pub extern "C" fn gondwize_scatter(
 }
 
 // The adding scatter.
-#[unsafe(no_mangle)]
-pub extern "C" fn gondwize_adding_scatter(
+pub fn gondwize_adding_scatter(
     nx: usize,
     ny: usize,
     records: &[u8],
@@ -140,8 +133,7 @@ pub extern "C" fn gondwize_adding_scatter(
 }
 
 // Update.
-#[unsafe(no_mangle)]
-pub extern "C" fn gondwize_update(
+pub fn gondwize_update(
     nx: usize,
     ny: usize,
     gx: i64,
@@ -173,14 +165,7 @@ pub extern "C" fn gondwize_update(
 }
 
 // Gather.
-#[unsafe(no_mangle)]
-pub extern "C" fn gondwize_gather(
-    nx: usize,
-    ny: usize,
-    records: &mut [u8],
-    ux: &[i64],
-    uy: &[i64],
-) -> u64
+pub fn gondwize_gather(nx: usize, ny: usize, records: &mut [u8], ux: &[i64], uy: &[i64]) -> u64
     ensures { Tells (λ told. GatherIs Bench nx ny
         records.old ux.now uy.now told
         records.new) result }
@@ -189,8 +174,7 @@ pub extern "C" fn gondwize_gather(
 }
 
 // Step.
-#[unsafe(no_mangle)]
-pub extern "C" fn gondwize_step(
+pub fn gondwize_step(
     nx: usize,
     ny: usize,
     gx: i64,
@@ -224,8 +208,7 @@ pub extern "C" fn gondwize_step(
 }
 
 // Run: one value, the number of completed steps.
-#[unsafe(no_mangle)]
-pub extern "C" fn gondwize_run(
+pub fn gondwize_run(
     nx: usize,
     ny: usize,
     gx: i64,
@@ -263,16 +246,14 @@ pub extern "C" fn gondwize_run(
 }
 
 // Read a file: nine values.
-#[unsafe(no_mangle)]
-pub extern "C" fn gondwize_read_file(bytes: &[u8], values: &mut [i64; wide::SETTINGS]) -> u64
+pub fn gondwize_read_file(bytes: &[u8], values: &mut [i64; wide::SETTINGS]) -> u64
     ensures { Gives (file_answer Bench bytes.now) settings values.old result values.new }
 {
     by_caller::read_file(Caller::Bench, bytes, values)
 }
 
 // Write a header.
-#[unsafe(no_mangle)]
-pub extern "C" fn gondwize_write_header(
+pub fn gondwize_write_header(
     nx: usize,
     ny: usize,
     gx: i64,
@@ -295,8 +276,7 @@ pub extern "C" fn gondwize_write_header(
 }
 
 // Keep.
-#[unsafe(no_mangle)]
-pub extern "C" fn gondwize_keep(store: &mut [u8], name: &[u8], file: &[u8]) -> u64
+pub fn gondwize_keep(store: &mut [u8], name: &[u8], file: &[u8]) -> u64
     ensures answer { result ≡ coded (keep_answer Bench store.old name.now file.now) }
     ensures store { store.new ≡ keep_leaves Bench store.old name.now file.now }
 {
@@ -304,13 +284,7 @@ pub extern "C" fn gondwize_keep(store: &mut [u8], name: &[u8], file: &[u8]) -> u
 }
 
 // Return: one value, the length of the file.
-#[unsafe(no_mangle)]
-pub extern "C" fn gondwize_return(
-    store: &[u8],
-    name: &[u8],
-    buffer: &mut [u8],
-    size: &mut u64,
-) -> u64
+pub fn gondwize_return(store: &[u8], name: &[u8], buffer: &mut [u8], size: &mut u64) -> u64
     ensures answer { Gives (length_of (return_answer store.now name.now buffer.old)) (λ n. n) size.old result size.new }
     ensures buffer { buffer.new ≡ return_leaves store.now name.now buffer.old }
 {
@@ -324,8 +298,7 @@ pub extern "C" fn gondwize_return(
 }
 
 // Forget.
-#[unsafe(no_mangle)]
-pub extern "C" fn gondwize_forget(store: &mut [u8], name: &[u8]) -> u64
+pub fn gondwize_forget(store: &mut [u8], name: &[u8]) -> u64
     ensures answer { result ≡ coded (forget_answer store.old name.now) }
     ensures store { store.new ≡ forget_leaves store.old name.now }
 {

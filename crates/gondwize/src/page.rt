@@ -18,21 +18,14 @@ ghost use Rattle.coding.specs.Runs.{RunTells};
 use limits::Caller;
 
 // Check a set.
-#[unsafe(no_mangle)]
-pub extern "C" fn gondwize_page_check_set(
-    nx: usize,
-    ny: usize,
-    records: &[u8],
-    count: &mut u64,
-) -> u64
+pub fn gondwize_page_check_set(nx: usize, ny: usize, records: &[u8], count: &mut u64) -> u64
     ensures { Gives (check_answer Page nx ny records.now) (λ n. n) count.old result count.new }
 {
     by_caller::check_set(Caller::Page, nx, ny, records, count)
 }
 
 // Totals.
-#[unsafe(no_mangle)]
-pub extern "C" fn gondwize_page_totals(
+pub fn gondwize_page_totals(
     nx: usize,
     ny: usize,
     records: &[u8],
@@ -44,8 +37,7 @@ pub extern "C" fn gondwize_page_totals(
 }
 
 // Scatter.
-#[unsafe(no_mangle)]
-pub extern "C" fn gondwize_page_scatter(
+pub fn gondwize_page_scatter(
     nx: usize,
     ny: usize,
     records: &[u8],
@@ -61,8 +53,7 @@ pub extern "C" fn gondwize_page_scatter(
 }
 
 // The adding scatter.
-#[unsafe(no_mangle)]
-pub extern "C" fn gondwize_page_adding_scatter(
+pub fn gondwize_page_adding_scatter(
     nx: usize,
     ny: usize,
     records: &[u8],
@@ -78,8 +69,7 @@ pub extern "C" fn gondwize_page_adding_scatter(
 }
 
 // Update.
-#[unsafe(no_mangle)]
-pub extern "C" fn gondwize_page_update(
+pub fn gondwize_page_update(
     nx: usize,
     ny: usize,
     gx: i64,
@@ -111,14 +101,7 @@ pub extern "C" fn gondwize_page_update(
 }
 
 // Gather.
-#[unsafe(no_mangle)]
-pub extern "C" fn gondwize_page_gather(
-    nx: usize,
-    ny: usize,
-    records: &mut [u8],
-    ux: &[i64],
-    uy: &[i64],
-) -> u64
+pub fn gondwize_page_gather(nx: usize, ny: usize, records: &mut [u8], ux: &[i64], uy: &[i64]) -> u64
     ensures { Tells (λ told. GatherIs Page nx ny
         records.old ux.now uy.now told
         records.new) result }
@@ -127,8 +110,7 @@ pub extern "C" fn gondwize_page_gather(
 }
 
 // Step.
-#[unsafe(no_mangle)]
-pub extern "C" fn gondwize_page_step(
+pub fn gondwize_page_step(
     nx: usize,
     ny: usize,
     gx: i64,
@@ -162,8 +144,7 @@ pub extern "C" fn gondwize_page_step(
 }
 
 // Run.
-#[unsafe(no_mangle)]
-pub extern "C" fn gondwize_page_run(
+pub fn gondwize_page_run(
     nx: usize,
     ny: usize,
     gx: i64,
@@ -201,16 +182,14 @@ pub extern "C" fn gondwize_page_run(
 }
 
 // Read a file.
-#[unsafe(no_mangle)]
-pub extern "C" fn gondwize_page_read_file(bytes: &[u8], values: &mut [i64; wide::SETTINGS]) -> u64
+pub fn gondwize_page_read_file(bytes: &[u8], values: &mut [i64; wide::SETTINGS]) -> u64
     ensures { Gives (file_answer Page bytes.now) settings values.old result values.new }
 {
     by_caller::read_file(Caller::Page, bytes, values)
 }
 
 // Keep.
-#[unsafe(no_mangle)]
-pub extern "C" fn gondwize_page_keep(store: &mut [u8], name: &[u8], file: &[u8]) -> u64
+pub fn gondwize_page_keep(store: &mut [u8], name: &[u8], file: &[u8]) -> u64
     ensures answer { result ≡ coded (keep_answer Page store.old name.now file.now) }
     ensures store { store.new ≡ keep_leaves Page store.old name.now file.now }
 {

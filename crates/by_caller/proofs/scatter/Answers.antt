@@ -1,0 +1,16 @@
+-- The place of the refusal that `scatter` told is below 2^32. Assumes nothing.
+use Rattle.std.proofs.Common.{length, ap}
+use Rattle.settings.specs.Settings.{still}
+use Rattle.entry.specs.declared.Buffers.TheVariants.{Three}
+use Rattle.entry.specs.Entry.{entry_answer}
+use Rattle.transfer.specs.Transfer.{told_scattered}
+use Rattle.coding.proofs.Coding.{place_of}
+use Rattle.coding.proofs.Places as places
+use Rattle.by_caller.proofs.scatter.Goals as goal
+
+pub code-requires : goal.code-requires
+code-requires c =
+    let a = c.args in
+    let buffers = Three (length a.mass.now) (length a.px.now) (length a.py.now) in
+    place_of c.in-Refused.refusal c.scatter.ensures.answer (ap told_scattered c.in-Refused.is)
+    (places.told (entry_answer a.caller (still a.nx a.ny) buffers 0 a.records.now) (places.entry a.caller (still a.nx a.ny) buffers 0 a.records.now))
