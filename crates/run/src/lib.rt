@@ -48,8 +48,9 @@ fn run_small(
     run_set::run_set(settings, steps, records, mass, px, py, &mut a, &mut b)
 }
 
-// The same for a middle set. `run` calls it. No middle set is as long as the call to itself asks: that call keeps the
-// compiler from making this function, and its arrays, a part of `run`, which would need their stack for every call.
+// The same for a middle set. `run` calls it. No middle set is as long as the call to itself asks. The compiler does not make this
+// function, and its arrays, a part of `run`, which would need their stack for every call.
+#[inline(never)]
 fn run_middle(
     settings: Settings,
     steps: usize,
@@ -70,6 +71,7 @@ fn run_middle(
 }
 
 // The same for any set, in the same way. `run` calls it.
+#[inline(never)]
 fn run_large(
     settings: Settings,
     steps: usize,
