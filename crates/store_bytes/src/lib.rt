@@ -71,6 +71,7 @@ pub fn letters(bytes: &[u8]) -> usize
 }
 
 // A name as it is given: 1 to 8 letters and nothing else.
+#[tactic(auto, unfolding(store::specs::Names::valid_name), using(std::proofs::lemmas::Bool::Decides::nat_tests))]
 pub fn valid_name(name: &[u8]) -> bool
     ensures { result ≡ valid_name name.now }
 {

@@ -21,6 +21,7 @@ pub fn place_of(store: &[u8], name: &[u8]) -> usize
 }
 
 // The place that a bath takes, or 4 where there is none. Crate store_calls calls it with the same.
+#[tactic(auto, unfolding(store::specs::Operations::place_for), using(std::proofs::lemmas::Bool::Decides::nat_tests))]
 pub fn place_for(store: &[u8], name: &[u8]) -> usize
     requires { (length store.now ≡ store_length) × (length name.now ≤ name_length) }
     ensures { (result ≡ place_for store.now name.now) × (result ≤ place_count) }

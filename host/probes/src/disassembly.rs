@@ -26,6 +26,16 @@ pub struct Instruction {
     pub operands: Vec<String>,
 }
 
+impl Part {
+    /// Whether it is the toolchain's own start of a program: C's `main`, where a crate's is `CRATE::main`, and r11 in none of its
+    /// operands. It grows its stack behind a test, for a message, and has nothing in r11 that a loop could lose.
+    pub fn is_start(&self) -> bool {
+        let named = |operand: &String| operand.contains("%r11");
+        let mut operands = self.instructions.iter().flat_map(|one| &one.operands);
+        self.is_function && self.name == "main" && !operands.any(named)
+    }
+}
+
 impl Instruction {
     /// Whether control may go elsewhere than to the next instruction.
     pub fn leaves(&self) -> bool {

@@ -20,6 +20,8 @@
 //! - no other jump of the function leads there;
 //! - the function is one by its symbol's type, and not a label in another.
 //!
+//! The toolchain's own start of a program, which has no r11, may have one anywhere.
+//!
 //! A loop is a jump back over straight code that moves the stack pointer, whatever register ends it.
 //! A comparison of the stack pointer anywhere else is refused too, since it may end a loop of another
 //! form. The pages of a smaller frame are touched one by one without a loop, which needs no register:
@@ -82,6 +84,9 @@ pub fn look(file: &Path) -> Result<Found, String> {
     let mut found = Found::default();
     for part in &parts {
         found.functions += usize::from(part.is_function);
+        if part.is_start() {
+            continue;
+        }
         for verdict in rule::verdicts(part) {
             match verdict {
                 Ok(()) => found.at_entry += 1,

@@ -55,6 +55,28 @@ fn no_loop_passes() {
 }
 
 #[test]
+fn the_start_of_a_program_passes() {
+    let expected = Found {
+        functions: 1,
+        at_entry: 0,
+        broken: Vec::new(),
+    };
+    assert_eq!(found("start"), expected);
+}
+
+#[test]
+fn what_is_like_the_start_is_refused() {
+    for (name, function) in [("start_of_another", "other"), ("start_with_r11", "main")] {
+        let found = found(name);
+        assert!(!found.broken.is_empty(), "{name}: {found:?}");
+        assert!(
+            found.broken.iter().all(|place| place.function == function),
+            "{name}: {found:?}"
+        );
+    }
+}
+
+#[test]
 fn what_a_compiler_got_wrong_is_refused() {
     refused("fault", "fault", "`mov %rsi,%r10` stands at 0");
 }

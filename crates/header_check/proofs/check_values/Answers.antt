@@ -2,6 +2,7 @@
 use borrow.Author.Rules.{rules}
 use borrow.Author.Tests.{lt-ltb, le-ltb}
 use Prim.Native.Nat.{ℕ}
+use native.Mathlib.Omega.{arith}
 use mathlib.Core.Path.{◌≡◌, refl, sym, ap, ◌∙◌}
 use mathlib.Core.Bool.{Bool, true, ◌&&◌}
 use lib.Dec.{ltb}
@@ -69,7 +70,8 @@ returns-then-not-edge c =
     let h = c.args.h in
     let k = c.args.caller in
     let s = size_is k h c.most_side.ensures c.if-not-size_is_valid.ensures in
-    let g = gravity_is k h (search rules) (search rules) c.if-not-gravity.ensures in
+    let found : true ≡ both (to_z w16 (of_z w16 h.gx)) (to_z w16 (of_z w16 h.gy)) = cc in
+    let g = gravity_is k h (search rules) (search rules) found in
     let e = edge_is k h c.edge_of.ensures c.if-not-edge.ensures in
     sym (header-checked k h _ s g e refl refl refl)
 
@@ -78,7 +80,8 @@ returns-then-h-gt-MOST_DRAG c =
     let h = c.args.h in
     let k = c.args.caller in
     let s = size_is k h c.most_side.ensures c.if-not-size_is_valid.ensures in
-    let g = gravity_is k h (search rules) (search rules) c.if-not-gravity.ensures in
+    let found : true ≡ both (to_z w16 (of_z w16 h.gx)) (to_z w16 (of_z w16 h.gy)) = cc in
+    let g = gravity_is k h (search rules) (search rules) found in
     let e = edge_is k h c.edge_of.ensures c.if-not-edge.ensures in
     on_edge k h s g e c.most_records-most.ensures (lt-ltb _ _ c.if-h-gt-MOST_DRAG.true) refl refl
 
@@ -87,7 +90,8 @@ returns-then-most-h c =
     let h = c.args.h in
     let k = c.args.caller in
     let s = size_is k h c.most_side.ensures c.if-not-size_is_valid.ensures in
-    let g = gravity_is k h (search rules) (search rules) c.if-not-gravity.ensures in
+    let found : true ≡ both (to_z w16 (of_z w16 h.gx)) (to_z w16 (of_z w16 h.gy)) = cc in
+    let g = gravity_is k h (search rules) (search rules) found in
     let e = edge_is k h c.edge_of.ensures c.if-not-edge.ensures in
     on_edge k h s g e c.most_records-most.ensures (le-ltb _ _ c.if-h-gt-MOST_DRAG.false) (lt-ltb _ _ c.if-most-h.true) refl
 
@@ -96,15 +100,17 @@ returns-then-h-gt-MOST_STEPS c =
     let h = c.args.h in
     let k = c.args.caller in
     let s = size_is k h c.most_side.ensures c.if-not-size_is_valid.ensures in
-    let g = gravity_is k h (search rules) (search rules) c.if-not-gravity.ensures in
+    let found : true ≡ both (to_z w16 (of_z w16 h.gx)) (to_z w16 (of_z w16 h.gy)) = cc in
+    let g = gravity_is k h (search rules) (search rules) found in
     let e = edge_is k h c.edge_of.ensures c.if-not-edge.ensures in
-    on_edge k h s g e c.most_records-most.ensures (le-ltb _ _ c.if-h-gt-MOST_DRAG.false) (le-ltb _ _ c.if-most-h.false) (lt-ltb _ _ c.if-h-gt-MOST_STEPS.true)
+    on_edge k h s g e c.most_records-most.ensures (le-ltb _ _ c.if-h-gt-MOST_DRAG.false) (le-ltb c.most_records-most.result h.count (omega arith)) (lt-ltb _ _ c.if-h-gt-MOST_STEPS.true)
 
 pub returns : goal.returns
 returns c =
     let h = c.args.h in
     let k = c.args.caller in
     let s = size_is k h c.most_side.ensures c.if-not-size_is_valid.ensures in
-    let g = gravity_is k h (search rules) (search rules) c.if-not-gravity.ensures in
+    let found : true ≡ both (to_z w16 (of_z w16 h.gx)) (to_z w16 (of_z w16 h.gy)) = cc in
+    let g = gravity_is k h (search rules) (search rules) found in
     let e = edge_is k h c.edge_of.ensures c.if-not-edge.ensures in
-    on_edge k h s g e c.most_records-most.ensures (le-ltb _ _ c.if-h-gt-MOST_DRAG.false) (le-ltb _ _ c.if-most-h.false) (le-ltb _ _ c.if-h-gt-MOST_STEPS.false)
+    on_edge k h s g e c.most_records-most.ensures (le-ltb _ _ c.if-h-gt-MOST_DRAG.false) (le-ltb c.most_records-most.result h.count (omega arith)) (le-ltb _ _ c.if-h-gt-MOST_STEPS.false)
