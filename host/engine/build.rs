@@ -67,10 +67,7 @@ fn main() {
     );
 
     let names = crates_of(CRATE, &fs::read_to_string(&list).expect("crates.txt"));
-    assert!(
-        names.contains(CRATE),
-        "crates.txt has no line for {CRATE}"
-    );
+    assert!(names.contains(CRATE), "crates.txt has no line for {CRATE}");
     let crates = names.iter().map(|name| root.join("crates").join(name));
     let crates: Vec<PathBuf> = crates.collect();
     if let Some(path) = crates.iter().find(|path| !path.is_dir()) {

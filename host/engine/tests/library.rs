@@ -5,7 +5,7 @@ use std::path::PathBuf;
 use std::process::Command;
 use std::time::SystemTime;
 
-use program::{ended, Ended, Room};
+use program::{ended, root, Ended, Room};
 
 /// Builds the wrapper in a copy of what it is made from.
 fn build(room: &Room) -> Ended {
@@ -15,10 +15,9 @@ fn build(room: &Room) -> Ended {
     ended(cargo.current_dir(room.path("host/engine")))
 }
 
-/// What the wrapper is made from, but for its `Cargo.toml`, which is one of a workspace.
-const PARTS: [&str; 5] = [
+/// What the wrapper is made from, but for the crates, and its `Cargo.toml`, which is one of a workspace.
+const PARTS: [&str; 4] = [
     "crates.txt",
-    "crates",
     "target/staticlib",
     "host/engine/src",
     "host/engine/build.rs",
@@ -28,6 +27,17 @@ const PARTS: [&str; 5] = [
 fn repository(name: &str) -> Room {
     let room = Room::new(name);
     PARTS.into_iter().for_each(|part| room.copy(part));
+    // Beside these a crate's folder has what rt keeps, which is large and not read.
+    for entry in fs::read_dir(root().join("crates")).expect("a folder") {
+        let name = entry.expect("a crate").file_name();
+        let name = name.to_str().expect("a name");
+        for part in ["src", "specs", "proofs"] {
+            let part = format!("crates/{name}/{part}");
+            if root().join(&part).exists() {
+                room.copy(&part);
+            }
+        }
+    }
     let package = "name = \"engine\"\nversion = \"0.1.0\"\nedition = \"2021\"\n";
     room.write(
         "host/engine/Cargo.toml",

@@ -390,7 +390,7 @@ fn by_rt_itself() {
     let told = ended(&mut run);
     assert_eq!((told.status, &told.wrote[..]), (Some(3), ""));
     assert!(
-        told.said.contains("error") && told.said.contains("nothing"),
+        told.said.contains("error[unknown-name]") && told.said.contains("nothing"),
         "{}",
         told.said
     );

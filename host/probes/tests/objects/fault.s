@@ -13,7 +13,7 @@
 #         room[b % 8192] ^ c ^ d ^ e ^ f ^ x ^ y ^ z
 #     }
 #
-# in Rattle (`rt staticlib`) and in Rust (`rustc -O`) alike.
+# in Rattle (`rt lib`) and in Rust (`rustc -O`) alike.
         .section .rodata.cst16, "aM", @progbits, 16
         .p2align 4
 ones:
