@@ -19,7 +19,7 @@ use Rattle.std.proofs.Math.Nat.{div-add-mod}
 use Rattle.std.specs.Int.Signed.{lt_z, le_z, shr_z, clash_ℤ}
 use Rattle.arith.specs.Order.{Within, linear, reading, ◌&◌, nothing, le_z-true, le_z-false, lt_z-true, lt_z-false, ≤ℤ-of-eq, ≤ℤ-total, ≤ℤ-antisym, *ℤ-mono-left, pos-nonneg}
 use Rattle.arith.specs.Size.{Bound, bound-pos, bound-within, within-bound}
-use Rattle.arith.specs.Rounding.{floor, rest, goes_up, nearest, parity, halves_even, rounded, Nearest, OddRounding, HalvesToEven, HalvesCancel, Grows, GrowingDoesNotCancel}
+use Rattle.arith.specs.Rounding.{floor, rest, nearest, parity, halves_even, rounded, Nearest, OddRounding, HalvesToEven, HalvesCancel, GrowingDoesNotCancel}
 
 -- ---- at work: 1/2, -1/2, 3/2, -3/2, 5/2, -5/2; 1/3, 2/3, -2/3; about a half of 2^34
 

@@ -7,12 +7,9 @@
 --     OddRounding, HalvesCancel     of -n the negative of that of n; the errors of neighbouring halves cancel
 --     GrowingDoesNotCancel          .. which is not so where halves above 0 grow
 -- Assumes nothing.
-use Rattle.std.specs.Prelude.{◌≡◌, refl, Bool, true, false, cond, not, ◌&&◌, ◌||◌, [], ◌∷◌, ℕ, zero, suc, ◌+◌, ◌-◌, ◌*◌, ◌/◌, ◌%◌, ◌<◌, ◌≤◌, T, eqb, ℤ, pos, negsuc, neg_ℤ, nat_abs, ◌+ℤ◌, ◌-ℤ◌, ◌*ℤ◌, ◌≤ℤ◌, ◌<ℤ◌}
-use Rattle.std.proofs.Common.{sym, ap, ap₂, ◌∙◌, subst, ⊎_elim, mod-lt, arith, eqb→eq}
-use Rattle.std.proofs.Math.Nat.{div-add-mod}
-use Rattle.std.specs.Int.Signed.{lt_z, le_z, shr_z, clash_ℤ}
-use Rattle.arith.specs.Order.{Within, linear, reading, ◌&◌, nothing, le_z-true, le_z-false, lt_z-true, lt_z-false, ≤ℤ-of-eq, ≤ℤ-total, ≤ℤ-antisym, *ℤ-mono-left, pos-nonneg}
-use Rattle.arith.specs.Size.{Bound, bound-pos, bound-within, within-bound}
+use Rattle.std.specs.Prelude.{◌≡◌, Bool, true, cond, ◌&&◌, ◌||◌, ℕ, zero, ◌*◌, ◌%◌, ◌<◌, eqb, ℤ, pos, neg_ℤ, nat_abs, ◌+ℤ◌, ◌-ℤ◌, ◌*ℤ◌, ◌≤ℤ◌}
+use Rattle.std.specs.Int.Signed.{lt_z, le_z, shr_z}
+use Rattle.arith.specs.Order.{Within}
 
 abbrev pub floor : ℤ → ℕ → ℤ
 floor n d = shr_z n d

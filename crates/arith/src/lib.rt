@@ -1,2 +1,2 @@
-// Laws of whole numbers alone: specs/ holds them, and there is no function.
+// Laws of whole numbers alone: specs/ holds them, proofs/ those of rounding, and there is no function.
 #![tactic(auto)]

@@ -48,8 +48,9 @@ fn run_small(
     run_set::run_set(settings, steps, records, mass, px, py, &mut a, &mut b)
 }
 
-// The same for a middle set. `run` calls it. No middle set is as long as the call to itself asks. The compiler does not make this
-// function, and its arrays, a part of `run`, which would need their stack for every call.
+// The same for a middle set. `run` calls it. The compiler does not make this function, and its arrays, a part of `run`, which
+// would need their stack for every call: the attribute asks for it, as does the call to itself, for which no middle set is long
+// enough.
 #[inline(never)]
 fn run_middle(
     settings: Settings,

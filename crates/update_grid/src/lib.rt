@@ -23,7 +23,7 @@ fn check_nodes(
     px: &[i64],
     py: &[i64],
 ) -> Updated
-    requires mass_len { (length mass.now ≡ count) × ((length px.now ≡ count) × (length py.now ≡ count)) }
+    requires lengths { (length mass.now ≡ count) × ((length px.now ≡ count) × (length py.now ≡ count)) }
     requires spread { Spread d × (nat_abs gx ≤ most_gravity) × (nat_abs gy ≤ most_gravity) }
     ensures { told_update result ≡ check_nodes d count gx gy mass.now px.now py.now }
 {

@@ -1,6 +1,6 @@
 -- `spline::weights` meets its contract: past either end it refuses, and between them the formulas' values fit.
 -- Assumes nothing.
-use Rattle.std.proofs.Common.{◌≡◌, false, ℤ, pos, negsuc}
+use Rattle.std.proofs.Common.{◌≡◌, false, pos, negsuc}
 use Rattle.std.specs.Int.Signed.{lt_z}
 use mir.Syntax.{w64}
 use mir.Val.{to_z, of_z}

@@ -44,8 +44,8 @@ overflow_mul-count c =
     let a = c.args in
     count_fits a.caller a.settings.nx a.settings.ny (checks a.caller a.settings a.mass.now a.px.now a.py.now c.in-Done.ensures).size
 
-pub check_nodes-requires-clause-mass_len : goal.check_nodes-requires-clause-mass_len
-check_nodes-requires-clause-mass_len c =
+pub check_nodes-requires-clause-lengths : goal.check_nodes-requires-clause-lengths
+check_nodes-requires-clause-lengths c =
     let a = c.args in
     let l = long-three _ _ _ _ (checks a.caller a.settings a.mass.now a.px.now a.py.now c.in-Done.ensures).long in
     (l.mass-is, (l.x-is, l.y-is))
