@@ -7,7 +7,7 @@
 -- Assumes nothing.
 use mathlib.Core.Path.{◌≡◌, sym, ap, ◌∙◌, subst}
 use mathlib.Core.List.{List}
-use Prim.Native.Nat.{ℕ, ◌*◌, ◌^◌, ◌<◌, ◌≤◌}
+use Prim.Native.Nat.{ℕ, ◌+◌, ◌*◌, ◌^◌, ◌<◌, ◌≤◌}
 use native.Mathlib.Nat.{lt_of_le_of_lt, mul-le-mul, mul-le-mul_right}
 use native.Mathlib.Omega.{arith}
 use lib.Dec.{lit<}
@@ -34,7 +34,7 @@ use Rattle.transfer.specs.Transfer.{scatter_answer, scatter_of}
 use Rattle.transfer.specs.Internal.{ScatterSet}
 use Rattle.transfer.proofs.Sets.{accepted-set}
 use Rattle.adding.specs.Adding.{check_nodes, mass_sums, momentum_sums, grid_sums, added_grids, adding_answer, Adds, AddingIs}
-use Rattle.adding.specs.Internal.{MassRoom, MomentumRoom, Gaining, Moderate, ModerateGrids, Addable, AddsSet}
+use Rattle.adding.specs.Internal.{MassRoom, MomentumRoom, cell_sums, Gaining, Moderate, ModerateGrids, Addable, AddsSet}
 use Rattle.adding.proofs.Nodes.{gained}
 use Rattle.adding.proofs.Scattered.{some-columns, scattered-moderate, length-mass, length-x, length-y}
 
@@ -70,12 +70,12 @@ module _ {n : ℕ} {mass : List ℕ} {px py : List ℤ} {mass' : List ℕ} {px' 
     mass-room =
         record {
           same = a.gain.mass-long ∙ sym a.held.mass-long;
-          fits = λ k b. mass-fits (gained n g h a.moderate e k (subst (λ m. k < m) a.held.mass-long b));
+          each = λ k b. mass-fits (gained n g h a.moderate e k (subst (λ m. k < m) a.held.mass-long b));
         }
 
     -- on an axis
     axis-room : (p p' : List ℤ) → length p ≡ n → length p' ≡ n → ((k : ℕ) → k < n → SFits w64 (get_or p k (pos 0) +ℤ get_or p' k (pos 0))) → MomentumRoom p p'
-    axis-room p p' l l' f = record { same = l' ∙ sym l; fits = λ k b. f k (subst (λ m. k < m) l b) }
+    axis-room p p' l l' f = record { same = l' ∙ sym l; each = λ k b. f k (subst (λ m. k < m) l b) }
 
     pub x-room : MomentumRoom px px'
     x-room =
@@ -87,14 +87,14 @@ module _ {n : ℕ} {mass : List ℕ} {px py : List ℤ} {mass' : List ℕ} {px' 
         axis-room py py' a.held.py-long a.gain.py-long
         (λ k b. let m = gained n g h a.moderate e k b in momentum-fits m.light m.slow-y)
 
-    pub grids-added : {mass'' : List ℕ} {px'' py'' : List ℤ} → mass'' ≡ mass_sums (length mass) mass mass' → px'' ≡ momentum_sums (length px) px px' → py'' ≡ momentum_sums (length py) py py' → Adds (added_grids n g h) mass px py done mass'' px'' py''
-    unfolding added_grids
+    pub grids-added : {mass'' : List ℕ} {px'' py'' : List ℤ} → mass'' ≡ cell_sums 0 ◌+◌ (length mass) mass mass' → px'' ≡ cell_sums (pos 0) ◌+ℤ◌ (length px) px px' → py'' ≡ cell_sums (pos 0) ◌+ℤ◌ (length py) py py' → Adds (added_grids n g h) mass px py done mass'' px'' py''
+    unfolding added_grids mass_sums momentum_sums
     grids-added i j k =
         done-leaves (ap (λ b. and_then b (λ _. gives (grid_sums n g h))) e)
         (λ t.
-        grids_of ((i ∙ ap (λ m. mass_sums m mass mass') a.held.mass-long) t)
-        ((j ∙ ap (λ m. momentum_sums m px px') a.held.px-long) t)
-        ((k ∙ ap (λ m. momentum_sums m py py') a.held.py-long) t))
+        grids_of ((i ∙ ap (λ m. cell_sums 0 ◌+◌ m mass mass') a.held.mass-long) t)
+        ((j ∙ ap (λ m. cell_sums (pos 0) ◌+ℤ◌ m px px') a.held.px-long) t)
+        ((k ∙ ap (λ m. cell_sums (pos 0) ◌+ℤ◌ m py py') a.held.py-long) t))
 
 -- ---- an accepted set, scattered on grids of its own
 

@@ -1,10 +1,11 @@
 -- What the internal functions of the adding scatter are given and leave: their contracts name these, and no public one does.
 -- Assumes nothing.
-use Rattle.std.specs.Prelude.{◌≡◌, List, ℕ, ◌+◌, ◌*◌, ◌≤◌, ◌<◌, length, get_or, ℤ, pos, ◌+ℤ◌}
+use Rattle.std.specs.Prelude.{◌≡◌, List, map, ℕ, ◌+◌, ◌*◌, ◌≤◌, ◌<◌, length, get_or, ℤ, pos, ◌+ℤ◌}
 use Rattle.std.specs.Int.{w64}
 use Rattle.std.proofs.Common.{Fits, SFits}
 use Rattle.arith.specs.Size.{Bound}
-use Rattle.limits.specs.Limits.{most_node_mass, most_present_momentum}
+use Rattle.arith.specs.Sums.{up_to}
+use Rattle.limits.specs.Limits.{most_side, most_node_mass, most_present_momentum}
 use Rattle.refusal.specs.Refused.{Answer}
 use Rattle.apic.specs.Step.{Grids, grids_of}
 use Rattle.particles.specs.Set.{particles_in}
@@ -12,14 +13,21 @@ use Rattle.transfer.specs.Transfer.{scatter_of}
 use Rattle.transfer.specs.Internal.{ScatterSet}
 use Rattle.adding.specs.Adding.{added_grids, Adds}
 
--- two grids of one length, whose sums are numbers of 64 bits: of masses, and of momenta
-pub record MassRoom (l m : List ℕ) : Type 0 where
+-- two grids of one length, whose sums node by node fit a cell
+pub record SumRoom {A : Type 0} (zero : A) (fits : A → A → Type 0) (l m : List A) : Type 0 where
   pub same : length m ≡ length l
-  pub fits : (k : ℕ) → k < length l → Fits w64 (get_or l k 0 + get_or m k 0)
+  pub each : (k : ℕ) → k < length l → fits (get_or l k zero) (get_or m k zero)
 
-pub record MomentumRoom (l m : List ℤ) : Type 0 where
-  pub same : length m ≡ length l
-  pub fits : (k : ℕ) → k < length l → SFits w64 (get_or l k (pos 0) +ℤ get_or m k (pos 0))
+-- the sums of two grids of n nodes
+abbrev pub cell_sums : {A : Type 0} → A → (A → A → A) → ℕ → List A → List A → List A
+cell_sums zero sum n l m = map (λ k. sum (get_or l k zero) (get_or m k zero)) (up_to n)
+
+-- of masses, and of momenta on an axis
+abbrev pub MassRoom : List ℕ → List ℕ → Type 0
+MassRoom = SumRoom 0 (λ x y. Fits w64 (x + y))
+
+abbrev pub MomentumRoom : List ℤ → List ℤ → Type 0
+MomentumRoom = SumRoom (pos 0) (λ x y. SFits w64 (x +ℤ y))
 
 -- grids of n nodes
 pub record Sized (n : ℕ) (mass : List ℕ) (px py : List ℤ) : Type 0 where
@@ -61,6 +69,6 @@ abbrev pub AddsSet : ℕ → ℕ → List ℕ → List ℕ → List ℤ → List
 AddsSet nx ny records mass px py told mass' px' py' =
     Adds (added_grids (nx * ny) (grids_of mass px py) (scatter_of nx ny (particles_in records))) mass px py told mass' px' py'
 
--- a small grid has at most so many nodes
-abbrev pub small_nodes : ℕ
-small_nodes = 320
+-- the larger arrays for a set's own grids have room for so many nodes
+abbrev pub most_room : ℕ
+most_room = most_side * most_side + 64

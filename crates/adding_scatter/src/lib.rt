@@ -2,14 +2,13 @@
 #![tactic(auto)]
 
 ghost use Rattle.std.specs.Prelude.{◌*◌, ◌≤◌};
-ghost use Rattle.transfer.specs.Transfer.{told_scattered};
+ghost use Rattle.refusal.specs.Refused.{told};
 ghost use Rattle.transfer.specs.Internal.{ScatterSet};
 ghost use Rattle.adding.specs.Adding.{AddingIs};
-ghost use Rattle.adding.specs.Internal.{small_nodes, Through, AddsSet};
+ghost use Rattle.adding.specs.Internal.{most_room, Through, AddsSet};
 
 use limits::{Caller, MOST_SIDE};
-use particles::Checked;
-use transfer::Scattered;
+use refusal::Refusal;
 
 // An array for a small grid has room for so many nodes, one for any grid for so many. Of these lengths no two of the three arrays
 // lie a multiple of 4,096 bytes apart, where a load from one waits for a store to another.
@@ -17,7 +16,7 @@ const SMALL_NODES: usize = 320;
 
 const LARGE_NODES: usize = MOST_SIDE * MOST_SIDE + 64;
 
-// Adds an accepted set by way of grids that have room for it. `add_small` and `add_large` call it.
+// Adds an accepted set by way of grids that have room for it. `add_set` calls it.
 fn add_through(
     nx: usize,
     ny: usize,
@@ -28,9 +27,9 @@ fn add_through(
     a: &mut [u64],
     b: &mut [i64],
     c: &mut [i64],
-) -> Scattered
+) -> Result<(), Refusal>
     requires { Through nx ny records.now mass.old px.old py.old a.old b.old c.old }
-    ensures { AddsSet nx ny records.now mass.old px.old py.old (told_scattered result) mass.new px.new py.new }
+    ensures { AddsSet nx ny records.now mass.old px.old py.old (told result) mass.new px.new py.new }
 {
     let count = nx * ny;
     let gain = &mut a[..count];
@@ -40,43 +39,23 @@ fn add_through(
     adding_grid::add_grids(count, mass, px, py, gain, gainx, gainy)
 }
 
-// Adds an accepted set with grids of its own, on a small grid. `adding_scatter` calls it.
-fn add_small(
+// Adds an accepted set with grids of its own, which have room for N nodes. `adding_scatter` calls it with either size. Were it
+// inlined there, every call would need the stack of the larger arrays.
+#[inline(never)]
+fn add_set<const N: usize>(
     nx: usize,
     ny: usize,
     records: &[u8],
     mass: &mut [u64],
     px: &mut [i64],
     py: &mut [i64],
-) -> Scattered
-    requires { ScatterSet nx ny records.now mass.old px.old py.old × (nx * ny ≤ small_nodes) }
-    ensures { AddsSet nx ny records.now mass.old px.old py.old (told_scattered result) mass.new px.new py.new }
+) -> Result<(), Refusal>
+    requires { ScatterSet nx ny records.now mass.old px.old py.old × (nx * ny ≤ N) × (N ≤ most_room) }
+    ensures { AddsSet nx ny records.now mass.old px.old py.old (told result) mass.new px.new py.new }
 {
-    let mut a = [0u64; SMALL_NODES];
-    let mut b = [0i64; SMALL_NODES];
-    let mut c = [0i64; SMALL_NODES];
-    add_through(nx, ny, records, mass, px, py, &mut a, &mut b, &mut c)
-}
-
-// The same on any grid. `adding_scatter` calls it. No grid has as many nodes as the call to itself asks: that call keeps the
-// compiler from making this function, and its arrays, a part of `adding_scatter`, which would need their stack for every call.
-fn add_large(
-    nx: usize,
-    ny: usize,
-    records: &[u8],
-    mass: &mut [u64],
-    px: &mut [i64],
-    py: &mut [i64],
-) -> Scattered
-    requires { ScatterSet nx ny records.now mass.old px.old py.old }
-    ensures { AddsSet nx ny records.now mass.old px.old py.old (told_scattered result) mass.new px.new py.new }
-{
-    let mut a = [0u64; LARGE_NODES];
-    let mut b = [0i64; LARGE_NODES];
-    let mut c = [0i64; LARGE_NODES];
-    if LARGE_NODES < nx * ny {
-        add_large(nx, ny, records, &mut a, &mut b, &mut c);
-    }
+    let mut a = [0u64; N];
+    let mut b = [0i64; N];
+    let mut c = [0i64; N];
     add_through(nx, ny, records, mass, px, py, &mut a, &mut b, &mut c)
 }
 
@@ -89,17 +68,13 @@ pub fn adding_scatter(
     mass: &mut [u64],
     px: &mut [i64],
     py: &mut [i64],
-) -> Scattered
-    ensures { AddingIs caller nx ny records.now mass.old px.old py.old (told_scattered result) mass.new px.new py.new }
+) -> Result<(), Refusal>
+    ensures { AddingIs caller nx ny records.now mass.old px.old py.old (told result) mass.new px.new py.new }
 {
-    match scatter::check_scatter(caller, nx, ny, records, mass.len(), px.len(), py.len()) {
-        Checked::Refused(refusal) => Scattered::Refused(refusal),
-        Checked::Records(_) => {
-            // An array is cleared at each call, so a grid takes the smaller where that has room.
-            if nx * ny <= SMALL_NODES {
-                return add_small(nx, ny, records, mass, px, py);
-            }
-            add_large(nx, ny, records, mass, px, py)
-        }
+    scatter::check_scatter(caller, nx, ny, records, mass.len(), px.len(), py.len())?;
+    // An array is cleared at each call, so a grid takes the smaller where that has room.
+    if nx * ny <= SMALL_NODES {
+        return add_set::<SMALL_NODES>(nx, ny, records, mass, px, py);
     }
+    add_set::<LARGE_NODES>(nx, ny, records, mass, px, py)
 }

@@ -2,7 +2,7 @@
 -- the buffer that it leaves.
 -- Assumes nothing.
 use Rattle.std.specs.Prelude.{ℕ, ◌+◌, ◌*◌, ◌≤◌, Bool, not, ◌&&◌, List, ltb, eqb, ℤ, pos, nat_abs, length, take}
-use Rattle.refusal.specs.Refused.{Answer, gives, refused_by, refuse_if, and_then, kept_unless}
+use Rattle.refusal.specs.Refused.{Answer, gives, refuse_if, and_then, kept_unless}
 use Rattle.limits.specs.declared.Caller.{Caller}
 use Rattle.limits.specs.declared.Caller.TheVariants.{Bench}
 use Rattle.limits.specs.Limits.{most_steps, most_drag, most_side_of, most_records_of, valid_gravity}
@@ -10,10 +10,6 @@ use Rattle.particle.specs.Layout.{record_length}
 use Rattle.particles.specs.Set.{set_length, valid_size, set_of}
 use Rattle.settings.specs.Settings.{edge_of, valid_edge}
 use Rattle.bath_file.specs.declared.Header.{Header}
-use Rattle.bath_file.specs.declared.FileRead.{FileRead}
-use Rattle.bath_file.specs.declared.FileRead.TheVariants as read
-use Rattle.bath_file.specs.declared.HeaderWritten.{HeaderWritten}
-use Rattle.bath_file.specs.declared.HeaderWritten.TheVariants as write
 use Rattle.bath_file.specs.Layout.{Name, nx, ny, gx, gy, count, steps, spare_after_steps, kind, width, drag, spare_after_drag, header_length, held, packed}
 
 -- the header that bytes of its length hold
@@ -95,10 +91,6 @@ room_for_file = header_length + set_length + 1
 abbrev pub file_answer : Caller → List ℕ → Answer Header
 file_answer caller bytes = and_then (header_answer caller bytes) (λ h. records_answer h bytes)
 
-abbrev pub told_read : FileRead → Answer Header
-told_read (read.Accepted h) = gives h
-told_read (read.Refused e) = refused_by e
-
 -- ---- writing a header
 
 -- 1 wrong length; 2; 10; 18; 19; 3; 17: by the bench's limits
@@ -108,7 +100,3 @@ write_answer h bytes = refuse_if (not (eqb (length bytes) header_length)) 1 0 (c
 -- the buffer afterwards: the header where the answer is a result, and else what it was
 unfoldable pub written : Header → List ℕ → List ℕ
 written h bytes = kept_unless (write_answer h bytes) (header_of h) bytes
-
-abbrev pub told_written : HeaderWritten → Answer Unit
-told_written write.Done = gives tt
-told_written (write.Refused e) = refused_by e

@@ -3,7 +3,6 @@
 #![tactic(auto)]
 
 use particles::SET_LENGTH;
-use refusal::Refusal;
 
 // The length of a header in bytes.
 pub const HEADER_LENGTH: usize = 11;
@@ -12,7 +11,8 @@ pub const HEADER_LENGTH: usize = 11;
 pub const FILE_ROOM: usize = HEADER_LENGTH + SET_LENGTH + 1;
 
 // The grid's size in nodes, gravity in 256ths of a velocity unit per step, the number of records, the number of steps, the kind of
-// the edge (0 open, 1 sticky, 2 slip) and its width in nodes, and drag in 256ths of a node's velocity.
+// the edge (0 open, 1 sticky, 2 slip) and its width in nodes, and drag in 256ths of a node's velocity. Kind and width are numbers
+// and no edge: a write answers for every one of them.
 #[derive(Clone, Copy)]
 pub struct Header {
     pub nx: usize,
@@ -24,16 +24,4 @@ pub struct Header {
     pub kind: usize,
     pub width: usize,
     pub drag: usize,
-}
-
-#[derive(Drop)]
-pub enum FileRead {
-    Accepted(Header),
-    Refused(Refusal),
-}
-
-#[derive(Drop)]
-pub enum HeaderWritten {
-    Done,
-    Refused(Refusal),
 }

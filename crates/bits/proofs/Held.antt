@@ -21,7 +21,7 @@ held e b t =
     let back = read_as w64 e b t in
     record { is = back; small = b; here = bound-equal (sym back) b }
 
--- the numbers of a record, as `unsigned` and `signed` of src/ widen them
+-- the numbers of a record, widened
 pub held-unsigned : {r : ℤ} (n : ℕ) → r ≡ pos n → n < 65536 → Held r (pos n) 65535
 held-unsigned n e h = held e (bound-pos (omega arith)) tt
 

@@ -4,5 +4,3 @@ pub mod Layouts
 pub mod Parts
 pub mod Shifts
 pub mod TwosComplement
-pub mod Stores
-pub mod Words

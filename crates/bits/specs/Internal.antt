@@ -7,10 +7,6 @@ use Rattle.bits.specs.Bits.{cut}
 abbrev pub little_at : List ℕ → ℕ → ℕ
 little_at bytes at = get_or bytes at 0 + get_or bytes (at + 1) 0 * 256 + get_or bytes (at + 2) 0 * 65536 + get_or bytes (at + 3) 0 * 16777216 + get_or bytes (at + 4) 0 * 4294967296 + get_or bytes (at + 5) 0 * 1099511627776 + get_or bytes (at + 6) 0 * 281474976710656 + get_or bytes (at + 7) 0 * 72057594037927936
 
--- a number of eight bytes with its bytes in the other order
-abbrev pub swapped_of : ℕ → ℕ
-swapped_of w = w % 256 * 72057594037927936 + w / 256 % 256 * 281474976710656 + w / 65536 % 256 * 1099511627776 + w / 16777216 % 256 * 4294967296 + w / 4294967296 % 256 * 16777216 + w / 1099511627776 % 256 * 65536 + w / 281474976710656 % 256 * 256 + w / 72057594037927936
-
 -- eight bytes from a place on as one number, the first the most significant
 abbrev pub word_at : List ℕ → ℕ → ℕ
 word_at bytes at = get_or bytes at 0 * 72057594037927936 + get_or bytes (at + 1) 0 * 281474976710656 + get_or bytes (at + 2) 0 * 1099511627776 + get_or bytes (at + 3) 0 * 4294967296 + get_or bytes (at + 4) 0 * 16777216 + get_or bytes (at + 5) 0 * 65536 + get_or bytes (at + 6) 0 * 256 + get_or bytes (at + 7) 0

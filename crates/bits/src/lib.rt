@@ -1,38 +1,26 @@
 // Bit fields: words of eight bytes in a buffer, parts of them by division with powers of two, and what a part stands for.
 #![tactic(auto)]
 
-ghost use Rattle.std.specs.Prelude.{◌≡◌, ◌+◌, ◌-◌, ◌*◌, ◌/◌, ◌%◌, ◌^◌, ◌≤◌, ◌<◌, length, pos};
+ghost use Rattle.std.specs.Prelude.{◌≡◌, ◌+◌, ◌-◌, ◌*◌, ◌/◌, ◌%◌, ◌^◌, ◌≤◌, ◌<◌, length};
 ghost use Rattle.std.specs.Int.Signed.{mag};
 ghost use Rattle.bits.specs.Bits.{twos_complement, residue};
-ghost use Rattle.bits.specs.Internal.{little_at, swapped_of, word_at, little_bytes, word_bytes, stored};
+ghost use Rattle.bits.specs.Internal.{little_at, word_at, little_bytes, word_bytes, stored};
 
 // Eight bytes from `at` on as one number, the first the least significant: the compiler makes one load of it. `word` calls it.
 fn little(bytes: &[u8], at: usize) -> u64
     requires { at + 8 ≤ length bytes.now }
     ensures { result ≡ little_at bytes.now at }
 {
-    bytes[at] as u64
-        + bytes[at + 1] as u64 * 256
-        + bytes[at + 2] as u64 * 65536
-        + bytes[at + 3] as u64 * 16777216
-        + bytes[at + 4] as u64 * 4294967296
-        + bytes[at + 5] as u64 * 1099511627776
-        + bytes[at + 6] as u64 * 281474976710656
-        + bytes[at + 7] as u64 * 72057594037927936
-}
-
-// A number of eight bytes with its bytes in the other order.
-fn swapped(w: u64) -> u64
-    ensures { result ≡ swapped_of w }
-{
-    w % 256 * 72057594037927936
-        + w / 256 % 256 * 281474976710656
-        + w / 65536 % 256 * 1099511627776
-        + w / 16777216 % 256 * 4294967296
-        + w / 4294967296 % 256 * 16777216
-        + w / 1099511627776 % 256 * 65536
-        + w / 281474976710656 % 256 * 256
-        + w / 72057594037927936
+    u64::from_le_bytes([
+        bytes[at],
+        bytes[at + 1],
+        bytes[at + 2],
+        bytes[at + 3],
+        bytes[at + 4],
+        bytes[at + 5],
+        bytes[at + 6],
+        bytes[at + 7],
+    ])
 }
 
 // Eight bytes from `at` on as one number, the first the most significant. Whoever reads a record or a
@@ -41,7 +29,7 @@ pub fn word(bytes: &[u8], at: usize) -> u64
     requires { at + 8 ≤ length bytes.now }
     ensures { result ≡ word_at bytes.now at }
 {
-    swapped(little(bytes, at))
+    little(bytes, at).swap_bytes()
 }
 
 // The low sixteen bits.
@@ -70,33 +58,13 @@ pub fn residue(value: i16, span: u16) -> u16
     (value + span as i16) as u16 % span
 }
 
-// A field's number as a wide one.
-pub fn unsigned(n: u16) -> i64
-    ensures { (result ≡ pos n) × (n < 65536) }
-{
-    n as i64
-}
-
-pub fn signed(n: i16) -> i64
-    ensures { result ≡ n }
-{
-    n as i64
-}
-
 // Stores the eight bytes of a number from `at` on, the least significant first: the compiler makes one store of it. `put_word`
 // calls it with a place that has eight bytes.
 fn put_little(w: u64, bytes: &mut [u8], at: usize)
     requires { at + 8 ≤ length bytes.old }
     ensures { bytes.new ≡ stored (little_bytes w) bytes.old at }
 {
-    bytes[at] = (w % 256) as u8;
-    bytes[at + 1] = (w / 256 % 256) as u8;
-    bytes[at + 2] = (w / 65536 % 256) as u8;
-    bytes[at + 3] = (w / 16777216 % 256) as u8;
-    bytes[at + 4] = (w / 4294967296 % 256) as u8;
-    bytes[at + 5] = (w / 1099511627776 % 256) as u8;
-    bytes[at + 6] = (w / 281474976710656 % 256) as u8;
-    bytes[at + 7] = (w / 72057594037927936) as u8;
+    bytes[at..at + 8].copy_from_slice(&w.to_le_bytes());
 }
 
 // Stores the eight bytes of a number from `at` on, the most significant first. Whoever writes a record or a header calls it
@@ -105,5 +73,5 @@ pub fn put_word(w: u64, bytes: &mut [u8], at: usize)
     requires { at + 8 ≤ length bytes.old }
     ensures { bytes.new ≡ stored (word_bytes w) bytes.old at }
 {
-    put_little(swapped(w), bytes, at);
+    put_little(w.swap_bytes(), bytes, at);
 }

@@ -1,5 +1,5 @@
 // The operations that have two callers, for programs in other languages: numbers and slices in, one number out, and values through
-// the caller's arrays. The exported functions of both callers are these; a run's is in crate coding.
+// the caller's arrays. What crate gondwize_c exports for the bench and for the lesson page calls these; a run's is in crate coding.
 #![tactic(auto)]
 
 ghost use Rattle.std.specs.Prelude.{◌≡◌};
@@ -16,14 +16,7 @@ ghost use Rattle.store.specs.Operations.{keep_answer, keep_leaves};
 ghost use Rattle.wide.specs.Values.{settings};
 ghost use Rattle.coding.specs.Coded.{coded, Gives, Tells};
 
-use bath_file::FileRead;
 use limits::Caller;
-use particles::Checked;
-use simulation::Stepped;
-use store::Changed;
-use totals::Totalled;
-use transfer::{Moved, Scattered};
-use update::Updated;
 use wide::answer;
 
 // Check a set: one value, the number of records.
@@ -31,8 +24,8 @@ pub fn check_set(caller: Caller, nx: usize, ny: usize, records: &[u8], count: &m
     ensures { Gives (check_answer caller nx ny records.now) (λ n. n) count.old result count.new }
 {
     match entry::check_set(caller, nx, ny, records) {
-        Checked::Refused(refusal) => answer::code(refusal),
-        Checked::Records(found) => {
+        Err(refusal) => answer::code(refusal),
+        Ok(found) => {
             *count = found as u64;
             0
         }
@@ -50,8 +43,8 @@ pub fn totals(
     ensures { Gives (totals_answer caller nx ny records.now) sums values.old result values.new }
 {
     match totals_set::set_totals(caller, nx, ny, records) {
-        Totalled::Refused(refusal) => answer::code(refusal),
-        Totalled::Sums(t) => {
+        Err(refusal) => answer::code(refusal),
+        Ok(t) => {
             *values = totals_share::sums_of(t);
             0
         }
@@ -72,13 +65,10 @@ pub fn scatter(
         mass.old px.old py.old told
         mass.new px.new py.new) result }
 {
-    match scatter::scatter(caller, nx, ny, records, mass, px, py) {
-        Scattered::Refused(refusal) => answer::code(refusal),
-        Scattered::Done => 0,
-    }
+    coding::coded(scatter::scatter(caller, nx, ny, records, mass, px, py))
 }
 
-// The adding scatter.
+// The adding scatter: in form as `scatter`, with another operation, whose promise is another.
 pub fn adding_scatter(
     caller: Caller,
     nx: usize,
@@ -92,10 +82,7 @@ pub fn adding_scatter(
         mass.old px.old py.old told
         mass.new px.new py.new) result }
 {
-    match adding_scatter::adding_scatter(caller, nx, ny, records, mass, px, py) {
-        Scattered::Refused(refusal) => answer::code(refusal),
-        Scattered::Done => 0,
-    }
+    coding::coded(adding_scatter::adding_scatter(caller, nx, ny, records, mass, px, py))
 }
 
 // Update.
@@ -117,10 +104,7 @@ pub fn update(
         px.new py.new) result }
 {
     let settings = settings::of_numbers(nx, ny, gx, gy, kind, width, drag);
-    match update_grid::update(caller, settings, mass, px, py) {
-        Updated::Refused(refusal) => answer::code(refusal),
-        Updated::Done => 0,
-    }
+    coding::coded(update_grid::update(caller, settings, mass, px, py))
 }
 
 // Gather.
@@ -136,10 +120,7 @@ pub fn gather(
         records.old ux.now uy.now told
         records.new) result }
 {
-    match gather::gather(caller, nx, ny, records, ux, uy) {
-        Moved::Refused(refusal) => answer::code(refusal),
-        Moved::Done => 0,
-    }
+    coding::coded(gather::gather(caller, nx, ny, records, ux, uy))
 }
 
 // Step.
@@ -162,10 +143,7 @@ pub fn step(
         records.new mass.new px.new py.new) result }
 {
     let settings = settings::of_numbers(nx, ny, gx, gy, kind, width, drag);
-    match run::step(caller, settings, records, mass, px, py) {
-        Stepped::Refused(refusal) => answer::code(refusal),
-        Stepped::Done => 0,
-    }
+    coding::coded(run::step(caller, settings, records, mass, px, py))
 }
 
 // Read a file: nine values.
@@ -173,8 +151,8 @@ pub fn read_file(caller: Caller, bytes: &[u8], values: &mut [i64; wide::SETTINGS
     ensures { Gives (file_answer caller bytes.now) settings values.old result values.new }
 {
     match file_reader::read_file(caller, bytes) {
-        FileRead::Refused(refusal) => answer::code(refusal),
-        FileRead::Accepted(h) => {
+        Err(refusal) => answer::code(refusal),
+        Ok(h) => {
             *values = wide::of_header(h);
             0
         }
@@ -186,8 +164,5 @@ pub fn keep(caller: Caller, store: &mut [u8], name: &[u8], file: &[u8]) -> u64
     ensures answer { result ≡ coded (keep_answer caller store.old name.now file.now) }
     ensures store { store.new ≡ keep_leaves caller store.old name.now file.now }
 {
-    match store_calls::keep(caller, store, name, file) {
-        Changed::Refused(refusal) => answer::code(refusal),
-        Changed::Done => 0,
-    }
+    coding::coded(store_calls::keep(caller, store, name, file))
 }

@@ -5,183 +5,154 @@
 pub mod records;
 
 use limits::Caller;
-use lines::lists::{NODES, integers, naturals};
-use lines::print;
-use lines::words::{integer, size};
+use lines::console::Console;
+use lines::lists::{Grid, List};
+use lines::operation::Operation;
+use std::io;
 use totals::SUMS;
+use wide::SETTINGS;
 
-// The names that a line may begin with, each the number that its letters make in ASCII.
-const CHECK: u64 = 0x636865636b;
-
-const TOTALS: u64 = 0x746f74616c73;
-
-const SCATTER: u64 = 0x73636174746572;
-
-const ADDING: u64 = 0x616464696e67;
-
-const UPDATE: u64 = 0x757064617465;
-
-const GATHER: u64 = 0x676174686572;
-
-const STEP: u64 = 0x73746570;
-
-const RUN: u64 = 0x72756e;
-
-const FILE: u64 = 0x66696c65;
-
-fn check_set(caller: Caller, bytes: &[u8]) {
+fn check_set(console: &mut Console, caller: Caller, bytes: &[u8]) -> io::Result<()> {
+    let [nx, ny] = console.numbers::<2>()?;
     let mut count = 7;
-    print::answer(by_caller::check_set(caller, size(), size(), bytes, &mut count));
-    print::count(count);
+    console.answer(by_caller::check_set(caller, nx.into(), ny.into(), bytes, &mut count))?;
+    console.values('n', &[count])
 }
 
-fn totals(caller: Caller, bytes: &[u8]) {
+fn totals(console: &mut Console, caller: Caller, bytes: &[u8]) -> io::Result<()> {
+    let [nx, ny] = console.numbers::<2>()?;
     let mut values = [7; SUMS];
-    print::answer(by_caller::totals(caller, size(), size(), bytes, &mut values));
-    print::totals(&values);
+    console.answer(by_caller::totals(caller, nx.into(), ny.into(), bytes, &mut values))?;
+    console.values('v', &values)
 }
 
-fn scatter(caller: Caller, bytes: &[u8]) {
-    let mut mass = [0; NODES];
-    let mut x = [0; NODES];
-    let mut y = [0; NODES];
-    print::answer(by_caller::scatter(
+fn scatter(console: &mut Console, caller: Caller, bytes: &[u8]) -> io::Result<()> {
+    let [nx, ny] = console.numbers::<2>()?;
+    let mut grid = Grid::read(console)?;
+    console.answer(by_caller::scatter(
         caller,
-        size(),
-        size(),
+        nx.into(),
+        ny.into(),
         bytes,
-        naturals(&mut mass),
-        integers(&mut x),
-        integers(&mut y),
-    ));
-    print::grids(&mass, &x, &y);
+        grid.mass.lent(),
+        grid.x.lent(),
+        grid.y.lent(),
+    ))?;
+    grid.print(console)
 }
 
-fn adding_scatter(caller: Caller, bytes: &[u8]) {
-    let mut mass = [0; NODES];
-    let mut x = [0; NODES];
-    let mut y = [0; NODES];
-    print::answer(by_caller::adding_scatter(
+// In form as `scatter`, with another operation.
+fn adding_scatter(console: &mut Console, caller: Caller, bytes: &[u8]) -> io::Result<()> {
+    let [nx, ny] = console.numbers::<2>()?;
+    let mut grid = Grid::read(console)?;
+    console.answer(by_caller::adding_scatter(
         caller,
-        size(),
-        size(),
+        nx.into(),
+        ny.into(),
         bytes,
-        naturals(&mut mass),
-        integers(&mut x),
-        integers(&mut y),
-    ));
-    print::grids(&mass, &x, &y);
+        grid.mass.lent(),
+        grid.x.lent(),
+        grid.y.lent(),
+    ))?;
+    grid.print(console)
 }
 
-fn update(caller: Caller) {
-    let mut mass = [0; NODES];
-    let mut x = [0; NODES];
-    let mut y = [0; NODES];
-    let nx = size();
-    let ny = size();
-    let gx = integer();
-    let gy = integer();
-    let kind = size();
-    let width = size();
-    let drag = size();
-    let m = naturals(&mut mass);
-    let ux = integers(&mut x);
-    let uy = integers(&mut y);
-    let code = by_caller::update(caller, nx, ny, gx, gy, kind, width, drag, m, ux, uy);
-    print::answer(code);
-    print::grids(&mass, &x, &y);
-}
-
-fn gather(caller: Caller, bytes: &mut [u8]) {
-    let mut x = [0; NODES];
-    let mut y = [0; NODES];
-    let nx = size();
-    let ny = size();
-    let ux = integers(&mut x);
-    let uy = integers(&mut y);
-    let code = by_caller::gather(caller, nx, ny, bytes, ux, uy);
-    records::after(code, bytes);
-}
-
-fn step(caller: Caller, bytes: &mut [u8]) {
-    let mut mass = [0; NODES];
-    let mut x = [0; NODES];
-    let mut y = [0; NODES];
-    let code = by_caller::step(
+fn update(console: &mut Console, caller: Caller) -> io::Result<()> {
+    let [nx, ny, gx, gy, kind, width, drag] = console.numbers::<7>()?;
+    let mut grid = Grid::read(console)?;
+    console.answer(by_caller::update(
         caller,
-        size(),
-        size(),
-        integer(),
-        integer(),
-        size(),
-        size(),
-        size(),
-        bytes,
-        naturals(&mut mass),
-        integers(&mut x),
-        integers(&mut y),
-    );
-    records::after(code, bytes);
-    print::grids(&mass, &x, &y);
+        nx.into(),
+        ny.into(),
+        gx.into(),
+        gy.into(),
+        kind.into(),
+        width.into(),
+        drag.into(),
+        grid.mass.lent(),
+        grid.x.lent(),
+        grid.y.lent(),
+    ))?;
+    grid.print(console)
 }
 
-fn run(caller: Caller, bytes: &mut [u8]) {
-    let mut mass = [0; NODES];
-    let mut x = [0; NODES];
-    let mut y = [0; NODES];
+fn gather(console: &mut Console, caller: Caller, bytes: &mut [u8]) -> io::Result<()> {
+    let [nx, ny] = console.numbers::<2>()?;
+    let mut x = List::read(console)?;
+    let mut y = List::read(console)?;
+    console.answer(by_caller::gather(caller, nx.into(), ny.into(), bytes, x.lent(), y.lent()))?;
+    records::print(console, bytes)
+}
+
+fn step(console: &mut Console, caller: Caller, bytes: &mut [u8]) -> io::Result<()> {
+    let [nx, ny, gx, gy, kind, width, drag] = console.numbers::<7>()?;
+    let mut grid = Grid::read(console)?;
+    console.answer(by_caller::step(
+        caller,
+        nx.into(),
+        ny.into(),
+        gx.into(),
+        gy.into(),
+        kind.into(),
+        width.into(),
+        drag.into(),
+        bytes,
+        grid.mass.lent(),
+        grid.x.lent(),
+        grid.y.lent(),
+    ))?;
+    records::print(console, bytes)?;
+    grid.print(console)
+}
+
+fn run(console: &mut Console, caller: Caller, bytes: &mut [u8]) -> io::Result<()> {
+    let [nx, ny, gx, gy, kind, width, drag, steps] = console.numbers::<8>()?;
+    let mut grid = Grid::read(console)?;
     let mut completed = 7;
-    let code = coding::run_told(
+    console.answer(coding::run_told(
         caller,
-        size(),
-        size(),
-        integer(),
-        integer(),
-        size(),
-        size(),
-        size(),
-        size(),
+        nx.into(),
+        ny.into(),
+        gx.into(),
+        gy.into(),
+        kind.into(),
+        width.into(),
+        drag.into(),
+        steps.into(),
         bytes,
-        naturals(&mut mass),
-        integers(&mut x),
-        integers(&mut y),
+        grid.mass.lent(),
+        grid.x.lent(),
+        grid.y.lent(),
         &mut completed,
-    );
-    records::after(code, bytes);
-    print::count(completed);
-    print::grids(&mass, &x, &y);
+    ))?;
+    records::print(console, bytes)?;
+    console.values('n', &[completed])?;
+    grid.print(console)
 }
 
-fn read_file(caller: Caller, bytes: &[u8]) {
-    let mut values = [7; 9];
-    print::answer(by_caller::read_file(caller, bytes, &mut values));
-    print::header(&values);
+fn read_file(console: &mut Console, caller: Caller, bytes: &[u8]) -> io::Result<()> {
+    let mut values = [7; SETTINGS];
+    console.answer(by_caller::read_file(caller, bytes, &mut values))?;
+    console.values('v', &values)
 }
 
-// The operations that leave the bytes.
-fn looking(name: u64, caller: Caller, bytes: &[u8]) {
-    match name {
-        CHECK => check_set(caller, bytes),
-        TOTALS => totals(caller, bytes),
-        SCATTER => scatter(caller, bytes),
-        ADDING => adding_scatter(caller, bytes),
-        UPDATE => update(caller),
-        FILE => read_file(caller, bytes),
-        _ => {}
+// Calls an operation for a caller; nothing where it is none of these. The program `cases` calls it.
+pub fn call(
+    operation: Operation,
+    console: &mut Console,
+    caller: Caller,
+    bytes: &mut [u8],
+) -> io::Result<()> {
+    match operation {
+        Operation::CheckSet => check_set(console, caller, bytes),
+        Operation::Totals => totals(console, caller, bytes),
+        Operation::Scatter => scatter(console, caller, bytes),
+        Operation::AddingScatter => adding_scatter(console, caller, bytes),
+        Operation::Update => update(console, caller),
+        Operation::Gather => gather(console, caller, bytes),
+        Operation::Step => step(console, caller, bytes),
+        Operation::Run => run(console, caller, bytes),
+        Operation::ReadFile => read_file(console, caller, bytes),
+        _ => Ok(()),
     }
-}
-
-// Those that may change them.
-fn changing(name: u64, caller: Caller, bytes: &mut [u8]) {
-    match name {
-        GATHER => gather(caller, bytes),
-        STEP => step(caller, bytes),
-        RUN => run(caller, bytes),
-        _ => {}
-    }
-}
-
-// Calls an operation for a caller; nothing where the line names none of these. The program `cases` calls it.
-pub fn call(name: u64, caller: Caller, bytes: &mut [u8]) {
-    looking(name, caller, bytes);
-    changing(name, caller, bytes);
 }

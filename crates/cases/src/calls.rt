@@ -1,90 +1,89 @@
 // The calls of the operations: each reads its numbers and lists, and prints its answer and what it may have changed. A value that
 // a call may give is 7 before.
-use crate::names;
+use crate::kept::Kept;
 use caller_cases::records;
 use limits::Caller;
-use lines::lists::within;
-use lines::print;
-use lines::words::{integer, natural, size};
+use lines::console::Console;
+use lines::operation::Operation;
 use particle::NUMBERS;
+use std::io;
 
-fn weights() {
+fn weights(console: &mut Console) -> io::Result<()> {
+    let [q] = console.numbers::<1>()?;
     let mut values = [7; 3];
-    print::answer(gondwize::gondwize_weights(integer(), &mut values));
-    print::weights(&values);
+    console.answer(gondwize::gondwize_weights(q.into(), &mut values))?;
+    console.values('v', &values)
 }
 
-fn read_record(bytes: &[u8]) {
+fn read_record(console: &mut Console, bytes: &[u8]) -> io::Result<()> {
     let mut values = [7; NUMBERS];
-    print::answer(gondwize::gondwize_read_record(bytes, &mut values));
-    print::fields(&values);
+    console.answer(gondwize::gondwize_read_record(bytes, &mut values))?;
+    console.values('r', &values)
 }
 
-fn write_record(bytes: &mut [u8]) {
+fn write_record(console: &mut Console, bytes: &mut [u8]) -> io::Result<()> {
+    let [identifier, mass, x, y, vx, vy, bxx, bxy, byx, byy, marks] = console.numbers::<11>()?;
     let code = gondwize::gondwize_write_record(
-        (natural() % 65536) as u16,
-        natural(),
-        natural(),
-        natural(),
-        integer(),
-        integer(),
-        integer(),
-        integer(),
-        integer(),
-        integer(),
-        (natural() % 256) as u8,
+        identifier.into(),
+        mass.into(),
+        x.into(),
+        y.into(),
+        vx.into(),
+        vy.into(),
+        bxx.into(),
+        bxy.into(),
+        byx.into(),
+        byy.into(),
+        marks.into(),
         bytes,
     );
-    records::after(code, bytes);
+    console.answer(code)?;
+    records::print(console, bytes)
 }
 
-fn write_header(bytes: &mut [u8]) {
+fn write_header(console: &mut Console, bytes: &mut [u8]) -> io::Result<()> {
+    let [nx, ny, gx, gy, count, steps, kind, width, drag] = console.numbers::<9>()?;
     let code = gondwize::gondwize_write_header(
-        size(),
-        size(),
-        integer(),
-        integer(),
-        size(),
-        size(),
-        size(),
-        size(),
-        size(),
+        nx.into(),
+        ny.into(),
+        gx.into(),
+        gy.into(),
+        count.into(),
+        steps.into(),
+        kind.into(),
+        width.into(),
+        drag.into(),
         bytes,
     );
-    records::after(code, bytes);
+    console.answer(code)?;
+    records::print(console, bytes)
 }
 
-// The operations that leave the bytes and know no caller.
-fn looking(name: u64, bytes: &[u8]) {
-    match name {
-        names::WEIGHTS => weights(),
-        names::READ => read_record(bytes),
-        _ => {}
-    }
-}
-
-// Those that may change them, those that have two callers, and those on the store.
-fn changing(name: u64, caller: Caller, bytes: &mut [u8], lent: usize, store: &mut [u8]) {
-    match name {
-        names::WRITE => write_record(bytes),
-        names::HEADER => write_header(bytes),
+// Calls an operation with what is lent of the bytes and the store, or changes what is kept. The program's loop calls it.
+pub fn call(operation: Operation, console: &mut Console, kept: &mut Kept) -> io::Result<()> {
+    let caller = kept.caller;
+    let end = kept.end.min(kept.bytes.len());
+    let bytes = &mut kept.bytes[..end];
+    match operation {
+        Operation::Bench => kept.caller = Caller::Bench,
+        Operation::Page => kept.caller = Caller::Page,
+        Operation::Records => kept.fill(console)?,
+        Operation::Store => kept.set(console)?,
+        Operation::Weights => weights(console)?,
+        Operation::ReadRecord => read_record(console, bytes)?,
+        Operation::WriteRecord => write_record(console, bytes)?,
+        Operation::WriteHeader => write_header(console, bytes)?,
         _ => {
-            caller_cases::call(name, caller, bytes);
-            store_cases::call(name, caller, lent, store, bytes);
+            caller_cases::call(operation, console, caller, bytes)?;
+            store_cases::call(
+                operation,
+                console,
+                caller,
+                &mut kept.store,
+                kept.lent,
+                bytes,
+            )?;
         }
     }
-}
-
-// Calls an operation for a caller, with the bytes up to the end, and with as much of the store as is lent.
-pub fn call(
-    name: u64,
-    caller: Caller,
-    end: usize,
-    bytes: &mut [u8],
-    lent: usize,
-    store: &mut [u8],
-) {
-    let n = within(end, bytes.len());
-    looking(name, &bytes[..n]);
-    changing(name, caller, &mut bytes[..n], lent, store);
+    Ok(())
 }

@@ -3,58 +3,33 @@
 #![tactic(auto)]
 
 mod calls;
-mod names;
+mod kept;
 
-use limits::Caller;
-use lines::words;
-use particle::RECORD_LENGTH;
-use particles::SET_LENGTH;
-use store::STORE_LENGTH;
-
-// Room for one record more than a set may have.
-const BYTES: usize = SET_LENGTH + RECORD_LENGTH;
-
-// Room for a store, and one byte more.
-const STORE: usize = STORE_LENGTH + 1;
+use kept::Kept;
+use lines::console::Console;
+use lines::operation::Operation;
+use std::io;
 
 // The most lines of an input.
 const MOST_LINES: u32 = 65536;
 
-// Who calls from a line on: the one that it names, and else the one before.
-fn called_by(name: u64, caller: Caller) -> Caller {
-    match name {
-        names::BENCH => Caller::Bench,
-        names::PAGE => Caller::Page,
-        _ => caller,
+// The lines, one after the other, up to the last name that has a byte behind it. A name that is not known is passed over.
+fn serve(console: &mut Console, kept: &mut Kept) -> io::Result<()> {
+    for _ in 0..MOST_LINES {
+        let name = console.word()?;
+        if name.end.is_none() {
+            break;
+        }
+        if let Some(operation) = Operation::named(&name) {
+            calls::call(operation, console, kept)?;
+        }
     }
+    Ok(())
 }
 
-// The lines, one after the other. The records and their end are kept from line to line, and so are the store, how much of it is
-// lent, and who calls.
-fn serve(bytes: &mut [u8], store: &mut [u8]) {
-    let mut end = 0;
-    let mut lent = STORE_LENGTH;
-    let mut caller = Caller::Bench;
-    let mut left = MOST_LINES;
-    while 0 < left {
-        let word = words::read_word();
-        if word.end == 0 {
-            return;
-        }
-        caller = called_by(word.bits, caller);
-        if word.bits == names::RECORDS {
-            end = lines::records::read(bytes);
-        } else if word.bits == names::STORE {
-            lent = lines::stores::read(store);
-        } else {
-            calls::call(word.bits, caller, end, bytes, lent, store);
-        }
-        left -= 1;
-    }
-}
-
-fn main() {
-    let mut bytes = [0; BYTES];
-    let mut store = [0; STORE];
-    serve(&mut bytes, &mut store);
+fn main(rt: HostRuntime) -> io::Result<()> {
+    let mut console = Console::new(&rt)?;
+    let mut kept = Kept::new(rt.alloc())?;
+    serve(&mut console, &mut kept)?;
+    console.flush()
 }

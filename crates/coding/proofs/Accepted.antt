@@ -1,10 +1,10 @@
 -- The values of accepted headers are small. Assumes nothing.
-use mathlib.Core.Path.{◌≡◌, sym, ◌∙◌}
+use mathlib.Core.Path.{◌≡◌, sym}
 use mathlib.Core.List.{List}
 use Prim.Native.Nat.{ℕ}
 use native.Mathlib.Nat.{le_trans}
 use native.Mathlib.Omega.{arith}
-use Rattle.refusal.specs.Refused.{Answer, gives}
+use Rattle.refusal.specs.Refused.{gives}
 use Rattle.limits.specs.declared.Caller.{Caller}
 use Rattle.limits.proofs.Callers.{records-most}
 use Rattle.particles.proofs.Checks.{size-limits}
@@ -15,9 +15,9 @@ use Rattle.bath_file.proofs.Answers.{header-held}
 use Rattle.bath_file.proofs.Records.{file-held}
 use Rattle.wide.specs.Internal.{Narrow}
 
-pub narrow : (caller : Caller) (bytes : List ℕ) {told : Answer Header} {h : Header} → told ≡ file_answer caller bytes → told ≡ gives h → Narrow h
-narrow caller bytes {h = h} is by =
-    let v = (header-held caller bytes (file-held caller bytes h (sym is ∙ by)).header).valid in
+pub narrow : (caller : Caller) (bytes : List ℕ) (h : Header) → gives h ≡ file_answer caller bytes → Narrow h
+narrow caller bytes h is =
+    let v = (header-held caller bytes (file-held caller bytes h (sym is)).header).valid in
     let count = le_trans v.count-to (records-most caller) in
     let s = size-limits caller h.nx h.ny v.size in
     let e = edge-limits h.kind h.width v.edge in

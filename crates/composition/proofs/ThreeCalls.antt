@@ -24,7 +24,7 @@ use Rattle.particles.specs.Set.{records_of}
 use Rattle.particles.proofs.Checks.{entered}
 use Rattle.arith.specs.Lists.{each_at}
 use Rattle.limits.specs.declared.Caller.{Caller}
-use Rattle.gathering.specs.Gather.{gathered, NodeVelocities}
+use Rattle.gathering.specs.Gather.{NodeVelocities}
 use Rattle.update.specs.Update.{velocities, both_axes, update_answer}
 use Rattle.settings.specs.Settings.{still}
 use Rattle.entry.specs.declared.Buffers.{Buffers}

@@ -1,7 +1,7 @@
 -- Documents 01 and 02: the checks that an operation begins with, in their order, by who calls it. An operation that has not a part
 -- gives one that is always accepted: no lent buffer, no gravity, open edges, no drag, no step, no record. Assumes nothing.
 use Rattle.std.specs.Prelude.{not, List, ℕ, ◌*◌, ltb, length}
-use Rattle.refusal.specs.Refused.{Answer, refused_by, refuse_if, and_then, done}
+use Rattle.refusal.specs.Refused.{Answer, refuse_if, and_then, done}
 use Rattle.particle.specs.declared.Particle.{Particle}
 use Rattle.limits.specs.declared.Caller.{Caller}
 use Rattle.limits.specs.Limits.{most_gravity, most_drag, most_steps, most_side_of}
@@ -9,8 +9,6 @@ use Rattle.particles.specs.Set.{valid_size, valid_length, record_count, too_many
 use Rattle.settings.specs.declared.Settings.{Settings}
 use Rattle.settings.specs.Settings.{valid_edge}
 use Rattle.entry.specs.declared.Buffers.{Buffers}
-use Rattle.entry.specs.declared.Begun.{Begun}
-use Rattle.entry.specs.declared.Begun.TheVariants.{Done, Refused}
 use Rattle.entry.specs.Checks.{are_long, both_within}
 
 -- 10 gravity not −4096 to 4096; 18 a width that the edge's kind does not have; 19 drag above 255; and then the rest of a list
@@ -33,7 +31,3 @@ begin_answer caller s buffers steps bytes =
 unfoldable pub entry_answer : Caller → Settings → Buffers → ℕ → List ℕ → Answer (List Particle)
 entry_answer caller s buffers steps records =
     and_then (begin_answer caller s buffers steps (length records)) (λ _. set_of s.nx s.ny 0 records (record_count records))
-
-abbrev pub told_begun : Begun → Answer Unit
-told_begun Done = done
-told_begun (Refused e) = refused_by e

@@ -4,13 +4,12 @@
 pub mod checks;
 
 ghost use Rattle.std.specs.Prelude.{◌≡◌, length};
-ghost use Rattle.refusal.specs.Refused.{gives, and_then, done};
-ghost use Rattle.particles.specs.Set.{told_checked, check_answer};
-ghost use Rattle.entry.specs.Entry.{told_begun, checked_forces, begin_answer, entry_answer};
+ghost use Rattle.refusal.specs.Refused.{gives, told, and_then, done};
+ghost use Rattle.particles.specs.Set.{check_answer};
+ghost use Rattle.entry.specs.Entry.{checked_forces, begin_answer, entry_answer};
 
 use limits::{Caller, MOST_DRAG, MOST_STEPS};
 use particle::RECORD_LENGTH;
-use particles::Checked;
 use refusal::Refusal;
 use settings::Settings;
 
@@ -22,28 +21,21 @@ pub enum Buffers {
     Three(usize, usize, usize),
 }
 
-// Whether the checks before the set are passed.
-#[derive(Drop)]
-pub enum Begun {
-    Done,
-    Refused(Refusal),
-}
-
 // Gravity, edge and drag.
-fn check_forces(settings: Settings) -> Begun
-    ensures { told_begun result ≡ checked_forces settings done }
+fn check_forces(settings: Settings) -> Result<(), Refusal>
+    ensures { told result ≡ checked_forces settings done }
 {
     if !checks::gravity_in_range(settings.gx, settings.gy) {
-        return Begun::Refused(Refusal::Gravity);
+        return Err(Refusal::Gravity);
     }
     let edge = settings.edge;
     if !settings::edge_is_valid(edge) {
-        return Begun::Refused(Refusal::Edge);
+        return Err(Refusal::Edge);
     }
     if MOST_DRAG < settings.drag {
-        return Begun::Refused(Refusal::Drag);
+        return Err(Refusal::Drag);
     }
-    Begun::Done
+    Ok(())
 }
 
 // The checks before the set, whose records have so many bytes.
@@ -53,31 +45,28 @@ pub fn begin(
     buffers: Buffers,
     steps: usize,
     bytes: usize,
-) -> Begun
-    ensures { told_begun result ≡ begin_answer caller settings buffers steps bytes }
+) -> Result<(), Refusal>
+    ensures { told result ≡ begin_answer caller settings buffers steps bytes }
 {
     let nx = settings.nx;
     let ny = settings.ny;
     if !particles::size_is_valid(limits::most_side(caller), nx, ny) {
-        return Begun::Refused(Refusal::GridSize);
+        return Err(Refusal::GridSize);
     }
     if !particles::length_is_valid(bytes) {
-        return Begun::Refused(Refusal::Length);
+        return Err(Refusal::Length);
     }
     if !checks::are_long(nx * ny, buffers) {
-        return Begun::Refused(Refusal::Length);
+        return Err(Refusal::Length);
     }
     if limits::most_records(caller) < bytes / RECORD_LENGTH {
-        return Begun::Refused(Refusal::Count);
+        return Err(Refusal::Count);
     }
-    match check_forces(settings) {
-        Begun::Refused(refusal) => return Begun::Refused(refusal),
-        Begun::Done => {}
-    }
+    check_forces(settings)?;
     if MOST_STEPS < steps {
-        return Begun::Refused(Refusal::Steps);
+        return Err(Refusal::Steps);
     }
-    Begun::Done
+    Ok(())
 }
 
 // The same, and then the set: the number of its records.
@@ -87,24 +76,22 @@ pub fn check(
     buffers: Buffers,
     steps: usize,
     records: &[u8],
-) -> Checked
-    ensures { told_checked result ≡ and_then (entry_answer caller settings buffers steps records.now) (λ ps. gives (length ps)) }
+) -> Result<usize, Refusal>
+    ensures { told result ≡ and_then (entry_answer caller settings buffers steps records.now) (λ ps. gives (length ps)) }
 {
-    match begin(caller, settings, buffers, steps, records.len()) {
-        Begun::Refused(refusal) => Checked::Refused(refusal),
-        Begun::Done => particles::check(
-            settings.nx,
-            settings.ny,
-            records,
-            0,
-            records.len() / RECORD_LENGTH,
-        ),
-    }
+    begin(caller, settings, buffers, steps, records.len())?;
+    particles::check(
+        settings.nx,
+        settings.ny,
+        records,
+        0,
+        records.len() / RECORD_LENGTH,
+    )
 }
 
 // Check a set: the number of its records.
-pub fn check_set(caller: Caller, nx: usize, ny: usize, records: &[u8]) -> Checked
-    ensures { told_checked result ≡ check_answer caller nx ny records.now }
+pub fn check_set(caller: Caller, nx: usize, ny: usize, records: &[u8]) -> Result<usize, Refusal>
+    ensures { told result ≡ check_answer caller nx ny records.now }
 {
     check(caller, settings::still(nx, ny), Buffers::None, 0, records)
 }

@@ -2,15 +2,14 @@
 #![tactic(auto)]
 
 ghost use Rattle.std.specs.Prelude.{◌≡◌, length};
-ghost use Rattle.refusal.specs.Refused.{gives};
+ghost use Rattle.refusal.specs.Refused.{gives, told};
 ghost use Rattle.limits.specs.declared.Caller.TheVariants.{Bench};
 ghost use Rattle.bath_file.specs.Layout.{header_length};
-ghost use Rattle.bath_file.specs.File.{header_in, checked_header, spare_is_zero, header_answer, records_answer, file_answer, told_read};
+ghost use Rattle.bath_file.specs.File.{header_in, checked_header, spare_is_zero, header_answer, records_answer, file_answer};
 
-use bath_file::{FileRead, HEADER_LENGTH, Header};
+use bath_file::{HEADER_LENGTH, Header};
 use limits::Caller;
 use particle::RECORD_LENGTH;
-use particles::Checked;
 use refusal::Refusal;
 
 // The header that bytes of its length hold: two words of eight bytes, the second from the fourth byte on, and the fields from them.
@@ -22,15 +21,15 @@ pub fn unpack(bytes: &[u8]) -> Header
     let first = bits::word(bytes, 0);
     let second = bits::word(bytes, 3);
     Header {
-        nx: bits::low(first / 288230376151711744) as usize,
-        ny: (bits::low(first / 4503599627370496) % 64) as usize,
+        nx: usize::from(bits::low(first / 288230376151711744)),
+        ny: usize::from(bits::low(first / 4503599627370496) % 64),
         gx: bits::signed_low(bits::low(first / 274877906944), 14),
         gy: bits::signed_low(bits::low(first / 16777216), 14),
-        count: (bits::low(first / 2048) % 8192) as usize,
-        steps: (bits::low(second / 2097152) % 16384) as usize,
-        kind: (bits::low(second / 16384) % 4) as usize,
-        width: (bits::low(second / 4096) % 4) as usize,
-        drag: (bits::low(second / 16) % 256) as usize,
+        count: usize::from(bits::low(first / 2048) % 8192),
+        steps: usize::from(bits::low(second / 2097152) % 16384),
+        kind: usize::from(bits::low(second / 16384) % 4),
+        width: usize::from(bits::low(second / 4096) % 4),
+        drag: usize::from(bits::low(second / 16) % 256),
     }
 }
 
@@ -43,45 +42,37 @@ fn spare_is_zero(bytes: &[u8]) -> bool
 }
 
 // The header of a file of any length, without its records.
-pub fn read_header(caller: Caller, bytes: &[u8]) -> FileRead
-    ensures { told_read result ≡ header_answer caller bytes.now }
+pub fn read_header(caller: Caller, bytes: &[u8]) -> Result<Header, Refusal>
+    ensures { told result ≡ header_answer caller bytes.now }
 {
     if bytes.len() < HEADER_LENGTH {
-        return FileRead::Refused(Refusal::Length);
+        return Err(Refusal::Length);
     }
     let header = &bytes[..HEADER_LENGTH];
-    match header_check::check_values(caller, unpack(header)) {
-        FileRead::Refused(refusal) => FileRead::Refused(refusal),
-        FileRead::Accepted(h) => {
-            if !spare_is_zero(header) {
-                return FileRead::Refused(Refusal::SpareBits);
-            }
-            FileRead::Accepted(h)
-        }
+    let h = header_check::check_values(caller, unpack(header))?;
+    if !spare_is_zero(header) {
+        return Err(Refusal::SpareBits);
     }
+    Ok(h)
 }
 
 // The answer for a file with this header: its length, and then its records. `read_file` calls it.
-fn check_records(h: Header, bytes: &[u8]) -> FileRead
+fn check_records(h: Header, bytes: &[u8]) -> Result<Header, Refusal>
     requires { checked_header Bench h (gives h) ≡ gives h }
-    ensures { told_read result ≡ records_answer h bytes.now }
+    ensures { told result ≡ records_answer h bytes.now }
 {
     let count = h.count;
     if bytes.len() != HEADER_LENGTH + RECORD_LENGTH * count {
-        return FileRead::Refused(Refusal::Length);
+        return Err(Refusal::Length);
     }
-    match particles::check(h.nx, h.ny, bytes, HEADER_LENGTH, count) {
-        Checked::Records(_) => FileRead::Accepted(h),
-        Checked::Refused(refusal) => FileRead::Refused(refusal),
-    }
+    particles::check(h.nx, h.ny, bytes, HEADER_LENGTH, count)?;
+    Ok(h)
 }
 
 // Read a file: any bytes. The result is the header's values, and the records lie behind the header.
-pub fn read_file(caller: Caller, bytes: &[u8]) -> FileRead
-    ensures { told_read result ≡ file_answer caller bytes.now }
+pub fn read_file(caller: Caller, bytes: &[u8]) -> Result<Header, Refusal>
+    ensures { told result ≡ file_answer caller bytes.now }
 {
-    match read_header(caller, bytes) {
-        FileRead::Refused(refusal) => FileRead::Refused(refusal),
-        FileRead::Accepted(h) => check_records(h, bytes),
-    }
+    let h = read_header(caller, bytes)?;
+    check_records(h, bytes)
 }

@@ -11,7 +11,7 @@ ghost use Rattle.file_run.specs.FileRun.{settings_for, most_nodes, RunRoom, run_
 use bath_file::Header;
 use limits::{Caller, MOST_SIDE};
 use settings::Settings;
-use simulation::Ran;
+use simulation::Stop;
 
 // The nodes of the largest grid.
 pub const MOST_NODES: usize = MOST_SIDE * MOST_SIDE;
@@ -20,12 +20,12 @@ pub const MOST_NODES: usize = MOST_SIDE * MOST_SIDE;
 fn settings_of(h: Header) -> Settings
     ensures { result ≡ settings_for h }
 {
-    let gx = bits::signed(h.gx);
-    let gy = bits::signed(h.gy);
+    let gx = i64::from(h.gx);
+    let gy = i64::from(h.gy);
     settings::of_numbers(h.nx, h.ny, gx, gy, h.kind, h.width, h.drag)
 }
 
-// The number of nodes of a grid. `run_records` calls it with sizes in range.
+// The number of nodes of a grid: a product by itself, whose contract has the bound. `run_records` calls it with sizes in range.
 fn nodes(nx: usize, ny: usize) -> usize
     requires { SizeLimits nx ny }
     ensures { (result ≡ nx * ny) × (result ≤ most_nodes) }
@@ -40,7 +40,7 @@ pub fn run_records(
     mass: &mut [u64],
     px: &mut [i64],
     py: &mut [i64],
-) -> Ran
+) -> Result<usize, Stop>
     requires { SizeLimits h.nx h.ny × RunRoom mass.old px.old py.old }
     ensures { Sees (run_first h records.old (grids_of mass.old px.old py.old))
         (told_ran result) records.new mass.new px.new py.new }

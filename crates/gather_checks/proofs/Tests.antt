@@ -1,36 +1,18 @@
--- The tests of a moved record, as the code makes them.
---     or_left, or_right          the first of two tests decides, or the second
---     beyond-low, beyond-high    a number against ±most, in two comparisons
+-- The tests of a moved record's place, as the code makes them.
 --     off-low, off-high          a coordinate against the two ends of an axis
 -- Assumes nothing.
-use mathlib.Core.Path.{◌≡◌, refl, sym, ap, ◌∙◌}
-use mathlib.Core.Bool.{Bool, true, false, not, ◌||◌}
+use mathlib.Core.Path.{◌≡◌, refl}
+use mathlib.Core.Bool.{Bool, true, false, not}
 use mathlib.Core.List.{[]}
-use Prim.Native.Nat.{ℕ, suc, ◌-◌, ◌*◌}
+use Prim.Native.Nat.{ℕ, ◌-◌, ◌*◌}
 use native.Mathlib.Omega.{arith}
 use lib.Dec.{leb, ltb}
-use lib.IntN.{ℤ, pos, negsuc, ◌-ℤ◌}
+use lib.IntN.{ℤ, pos, negsuc}
 use lib.Signed.{lt_z}
 use borrow.Author.Tests.{lt-ltb, le-ltb, leb-true, leb-false, lt-leb, le-leb, ltb-true, ltb-false}
-use Rattle.arith.specs.Order.{linear, reading, lt_z-true, lt_z-false}
+use Rattle.arith.specs.Order.{linear, reading, lt_z-false}
 use Rattle.spline.specs.Spline.{on_axis}
-use Rattle.gathering.specs.Gather.{beyond, off_axis}
-
-pub or_left : {r a : Bool} (b : Bool) → r ≡ a → r ≡ true → true ≡ a || b
-or_left b e t = ap (λ x. x || b) (sym t ∙ e)
-
-pub or_right : {r s a b : Bool} → r ≡ a → r ≡ false → s ≡ b → s ≡ a || b
-or_right {b} e t f = f ∙ ap (λ x. x || b) (sym t ∙ e)
-
-pub beyond-low : (m : ℕ) (z : ℤ) → lt_z z (pos 0 -ℤ pos m) ≡ true → true ≡ beyond m z
-beyond-low m (pos a) e = absurd (linear [] (lt_z-true (pos a) (pos 0 -ℤ pos m) e) (search reading depth 30) (omega arith))
-beyond-low m (negsuc a) e =
-    sym (lt-ltb m (suc a) (linear [] (lt_z-true (negsuc a) (pos 0 -ℤ pos m) e) (search reading depth 30) (omega arith)))
-
-pub beyond-high : (m : ℕ) (z : ℤ) → lt_z z (pos 0 -ℤ pos m) ≡ false → lt_z (pos m) z ≡ beyond m z
-beyond-high m (pos a) e = refl
-beyond-high m (negsuc a) e =
-    sym (le-ltb m (suc a) (linear [] (lt_z-false (negsuc a) (pos 0 -ℤ pos m) e) (search reading depth 30) (omega arith)))
+use Rattle.gathering.specs.Gather.{off_axis}
 
 pub off-low : (n : ℕ) (z : ℤ) → lt_z z (pos 32) ≡ true → true ≡ off_axis n z
 unfolding on_axis

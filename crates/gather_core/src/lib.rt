@@ -8,7 +8,7 @@ ghost use Rattle.unpacked.specs.Unpacked.{per_particle};
 ghost use Rattle.gathering.specs.Gather.{Gatherable, Gathers};
 ghost use Rattle.gathering.specs.Parts.{MovesAt};
 
-use gathering::Gathered;
+use refusal::Refusal;
 use unpacked::NUMBERS;
 
 // Moves particle k of `from`, the first of which is record `first`, into `to`, unless it is refused. `gather_from` calls it.
@@ -22,22 +22,22 @@ fn move_one(
     ux: &[i64],
     uy: &[i64],
     to: &mut [i16],
-) -> Gathered
+) -> Result<(), Refusal>
     requires { Gatherable nx ny from.now ux.now uy.now to.old × (first ≤ most_records) × (k < length from.now / per_particle) }
     ensures { MovesAt (weight_in table.now) nx ny (first + k) k from.now ux.now uy.now to.old to.new result }
 {
     let at = NUMBERS * k;
-    let x = unpacked::natural_at(from, at + 1) as usize;
-    let y = unpacked::natural_at(from, at + 2) as usize;
-    let m = gather_point::gather_at(x, y, nx, table, ux, uy);
+    let x = unpacked::natural_at(from, at + 1);
+    let y = unpacked::natural_at(from, at + 2);
+    let m = gather_point::gather_at(usize::from(x), usize::from(y), nx, table, ux, uy);
     gather_particle::settle(
         first + k,
         k,
         nx,
         ny,
         unpacked::number_at(from, at),
-        x as i64,
-        y as i64,
+        i64::from(x),
+        i64::from(y),
         m.x,
         m.y,
         to,
@@ -55,18 +55,13 @@ pub fn gather_from(
     ux: &[i64],
     uy: &[i64],
     to: &mut [i16],
-) -> Gathered
+) -> Result<(), Refusal>
     requires { Gatherable nx ny from.now ux.now uy.now to.old × (first ≤ most_records) }
     ensures { Gathers (weight_in table.now) first nx ny from.now ux.now uy.now to.old to.new result }
 {
     let count = from.len() / NUMBERS;
-    let mut k = 0;
-    while k < count {
-        match move_one(first, from, k, nx, ny, table, ux, uy, to) {
-            Gathered::Done => {}
-            Gathered::Refused(refusal) => return Gathered::Refused(refusal),
-        }
-        k += 1;
+    for k in 0..count {
+        move_one(first, from, k, nx, ny, table, ux, uy, to)?;
     }
-    Gathered::Done
+    Ok(())
 }

@@ -2,28 +2,25 @@
 #![tactic(auto)]
 
 ghost use Rattle.std.specs.Prelude.{◌≡◌, length};
-ghost use Rattle.refusal.specs.Refused.{told_of};
-ghost use Rattle.entry.specs.Entry.{told_begun};
+ghost use Rattle.refusal.specs.Refused.{told_of, told};
 ghost use Rattle.transfer.specs.Transfer.{velocity_checks, checked_set};
 
-use entry::{Begun, Buffers};
+use entry::Buffers;
 use limits::{Caller, MOST_NODE_VELOCITY};
-use particles::Checked;
 use refusal::Refusal;
 
 // Looks at the velocity of every node. `check_gather` calls it.
-fn check_velocities(count: usize, ux: &[i64], uy: &[i64]) -> Begun
-    requires { (length ux.now ≡ count) × (length uy.now ≡ count) }
-    ensures { told_begun result ≡ velocity_checks count ux.now uy.now }
+fn check_velocities(ux: &[i64], uy: &[i64]) -> Result<(), Refusal>
+    requires { length uy.now ≡ length ux.now }
+    ensures { told result ≡ velocity_checks (length ux.now) ux.now uy.now }
 {
-    let mut k = 0;
-    while k < count {
+    // by index: over a zip the proof does not learn that the items fit 64 bits
+    for k in 0..ux.len() {
         if !entry::checks::both_within(ux[k], uy[k], MOST_NODE_VELOCITY) {
-            return Begun::Refused(Refusal::NodeVelocity(k));
+            return Err(Refusal::NodeVelocity(k));
         }
-        k += 1;
     }
-    Begun::Done
+    Ok(())
 }
 
 // The checks of a gather before any particle moves. Crate gather calls it.
@@ -34,13 +31,11 @@ pub fn check_gather(
     records: &[u8],
     ux: &[i64],
     uy: &[i64],
-) -> Begun
-    ensures { told_begun result ≡ told_of (checked_set caller nx ny records.now ux.now uy.now) }
+) -> Result<(), Refusal>
+    ensures { told result ≡ told_of (checked_set caller nx ny records.now ux.now uy.now) }
 {
     let settings = settings::still(nx, ny);
     let buffers = Buffers::Two(ux.len(), uy.len());
-    match entry::check(caller, settings, buffers, 0, records) {
-        Checked::Refused(refusal) => Begun::Refused(refusal),
-        Checked::Records(_) => check_velocities(ux.len(), ux, uy),
-    }
+    entry::check(caller, settings, buffers, 0, records)?;
+    check_velocities(ux, uy)
 }

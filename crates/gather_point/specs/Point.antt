@@ -17,15 +17,6 @@ use Rattle.gather_point.specs.declared.Motion.{Motion}
 abbrev pub most_gathered : ℕ
 most_gathered = 524288
 
--- weights of one axis, and three numbers to weigh: below 2^16, and at most 2^35
-pub record Weighable (lower nearest upper a b c : ℤ) : Type 0 where
-  pub lower-size : Bound lower 65535
-  pub nearest-size : Bound nearest 65535
-  pub upper-size : Bound upper 65535
-  pub first : Bound a 34359738368
-  pub second : Bound b 34359738368
-  pub third : Bound c 34359738368
-
 -- Σ w·a over three neighbours, and the upper one's share less the lower one's
 abbrev pub shares_of : ℤ → ℤ → ℤ → ℤ → ℤ → ℤ → Shares
 shares_of lower nearest upper a b c =

@@ -6,7 +6,7 @@ ghost use Rattle.arith.specs.Size.{Bound};
 ghost use Rattle.arith.specs.Sums.{Each};
 ghost use Rattle.limits.specs.Limits.{most_side, most_position, most_node_velocity};
 ghost use Rattle.spline.specs.Spline.{offset, nearest_node};
-ghost use Rattle.gather_point.specs.Point.{Weighable, shares_of, weighed, SmallWeights, row_shares, SmallShares, block_of, SmallBlock, moment_about, affine_velocity_of, nine_nodes, Nine, Around, MotionAt, most_gathered};
+ghost use Rattle.gather_point.specs.Point.{weighed, SmallWeights, row_shares, SmallShares, block_of, SmallBlock, moment_about, affine_velocity_of, nine_nodes, Nine, Around, MotionAt, most_gathered};
 
 use spline::AxisWeights;
 
@@ -40,44 +40,35 @@ pub struct Motion {
     pub y: AffineVelocity,
 }
 
-fn wide(weight: u16) -> i64
-    ensures { result ≡ pos weight }
+// Three neighbours' numbers, weighed. `row_shares` and `three_rows` call it.
+fn weigh(w: AxisWeights, a: i64, b: i64, c: i64) -> Shares
+    requires { Bound a 34359738368 × Bound b 34359738368 × Bound c 34359738368 }
+    ensures { (result ≡ weighed w a b c) × SmallWeights w }
 {
-    weight as i64
-}
-
-fn weigh(lower: i64, nearest: i64, upper: i64, a: i64, b: i64, c: i64) -> Shares
-    requires { Weighable lower nearest upper a b c }
-    ensures { result ≡ shares_of lower nearest upper a b c }
-{
+    let lower = i64::from(w.lower);
+    let nearest = i64::from(w.nearest);
+    let upper = i64::from(w.upper);
     Shares {
         sum: lower * a + nearest * b + upper * c,
         tilt: upper * c - lower * a,
     }
 }
 
-fn weigh_three(w: AxisWeights, a: i64, b: i64, c: i64) -> Shares
-    requires { Bound a 34359738368 × Bound b 34359738368 × Bound c 34359738368 }
-    ensures { (result ≡ weighed w a b c) × SmallWeights w }
-{
-    weigh(wide(w.lower), wide(w.nearest), wide(w.upper), a, b, c)
-}
-
-// Three nodes of a row, of which the first is at place `at`.
+// Three nodes of a row, of which the first is at place `at`. `gather_axis` calls it.
 fn row_shares(w: AxisWeights, u: &[i64], at: usize) -> Shares
     requires { (at + 2 < length u.now) × Each (λ z. nat_abs z ≤ most_node_velocity) u.now }
     ensures { (result ≡ row_shares w u.now at) × SmallShares result }
 {
-    weigh_three(w, u[at], u[at + 1], u[at + 2])
+    weigh(w, u[at], u[at + 1], u[at + 2])
 }
 
-// Three rows, from the lower to the upper.
+// Three rows, from the lower to the upper. `gather_axis` calls it.
 fn three_rows(w: AxisWeights, a: Shares, b: Shares, c: Shares) -> Block
     requires { SmallShares a × SmallShares b × SmallShares c }
     ensures { (result ≡ block_of w a b c) × SmallBlock result }
 {
-    let sums = weigh_three(w, a.sum, b.sum, c.sum);
-    let tilts = weigh_three(w, a.tilt, b.tilt, c.tilt);
+    let sums = weigh(w, a.sum, b.sum, c.sum);
+    let tilts = weigh(w, a.tilt, b.tilt, c.tilt);
     Block {
         sum: sums.sum,
         across: tilts.sum,
@@ -85,7 +76,7 @@ fn three_rows(w: AxisWeights, a: Shares, b: Shares, c: Shares) -> Block
     }
 }
 
-// Σ W·u·d along one axis, where the particle is at offset q from its nearest node.
+// Σ W·u·d along one axis, where the particle is at offset q from its nearest node. `affine_velocity` calls it.
 fn moment(sum: i64, tilt: i64, q: i64) -> i64
     requires { Bound sum 9007199254740992 × Bound tilt 9007199254740992 × Bound q 32 }
     ensures { (result ≡ moment_about sum tilt q) × Bound result 1152921504606846976 }
@@ -93,7 +84,7 @@ fn moment(sum: i64, tilt: i64, q: i64) -> i64
     64 * tilt - q * sum
 }
 
-// The velocity on one axis from the sums over the nine nodes.
+// The velocity on one axis from the sums over the nine nodes. `gather_axis` calls it.
 fn affine_velocity(b: Block, qx: i64, qy: i64) -> AffineVelocity
     requires { SmallBlock b × Bound qx 32 × Bound qy 32 }
     ensures { (result ≡ affine_velocity_of b qx qy) × Bound result.v most_gathered }
@@ -105,7 +96,7 @@ fn affine_velocity(b: Block, qx: i64, qy: i64) -> AffineVelocity
     }
 }
 
-// The offset of a coordinate from its nearest node.
+// The offset of a coordinate from its nearest node. `gather_at` calls it.
 fn offset_of(x: usize) -> i64
     requires { x ≤ most_position }
     ensures { (result ≡ offset x) × Bound result 32 }
@@ -113,7 +104,8 @@ fn offset_of(x: usize) -> i64
     ((x + 32) % 64) as i64 - 32
 }
 
-// The place of the lowest of the nine nodes around a particle at (x, y).
+// The place of the lowest of the nine nodes around a particle at (x, y). `gather_at` calls it.
+#[tactic(auto, unfolding(spline::specs::Spline::nearest_node))]
 fn first_node(nx: usize, x: usize, y: usize) -> usize
     requires { (nx ≤ most_side) × ((32 ≤ x) × (x ≤ most_position)) × ((32 ≤ y) × (y ≤ most_position)) }
     ensures { result ≡ (nearest_node y - 1) * nx + (nearest_node x - 1) }
@@ -121,7 +113,7 @@ fn first_node(nx: usize, x: usize, y: usize) -> usize
     ((y + 32) / 64 - 1) * nx + ((x + 32) / 64 - 1)
 }
 
-// The velocity on one axis from its node velocities `u`, the first of the nine nodes being at place `at`.
+// The velocity on one axis from its node velocities `u`, the first of the nine nodes being at place `at`. `gather_at` calls it.
 fn gather_axis(
     u: &[i64],
     nx: usize,

@@ -2,6 +2,7 @@
 --     set-kept      the moved particles are within the limits
 --     all_moved     the array that `gather_from` then leaves holds the moved particles
 -- Assumes nothing.
+use Rattle.std.proofs.Common.{Result}
 use mathlib.Core.Path.{◌≡◌, refl, sym, ap, ap₂, subst, subst₂, ◌∙◌}
 use mathlib.Core.List.{List, [], ◌∷◌, ◌++◌, map, append-nil}
 use Prim.Native.Nat.{ℕ, suc, ◌+◌, ◌*◌, ◌≤◌, ◌<◌}
@@ -10,16 +11,16 @@ use lib.ListN.{length, length-map, drop_of_length-le}
 use lib.Seq.{take-length}
 use lib.IntN.{ℤ}
 use Rattle.arith.specs.Sums.{Each}
-use Rattle.refusal.specs.Refused.{gives}
+use Rattle.refusal.specs.Refused.{gives, told}
 use Rattle.limits.specs.Limits.{most_records, most_total_mass}
 use Rattle.particle.specs.declared.Particle.{Particle}
 use Rattle.apic.specs.Step.{moved}
 use Rattle.apic.specs.Totals.{total_mass}
 use Rattle.apic.specs.Limits.{ParticleLimits, SetLimits, Rising}
+use Rattle.refusal.specs.declared.Refusal.{Refusal}
 use Rattle.unpacked.specs.Unpacked.{per_particle, unpacked, Holds}
 use Rattle.unpacked.proofs.Laws.{numbers-count}
-use Rattle.gathering.specs.declared.Gathered.{Gathered}
-use Rattle.gathering.specs.Gather.{gathered, move_checks, answer_from, told_gathered, moved_before, moved_into, target_from, GathersFrom}
+use Rattle.gathering.specs.Gather.{gathered, move_checks, answer_from, moved_before, moved_into, target_from, GathersFrom}
 use Rattle.gathering.proofs.Checks.{Passed, passed}
 
 -- identifiers and masses are kept, by any move
@@ -80,7 +81,7 @@ module _ (w : ℕ → ℕ → ℤ) (nx ny : ℕ) (ux uy : List ℤ) where
 
 -- ---- the target of a call that is not refused
 
-module _ {w : ℕ → ℕ → ℤ} {first nx ny : ℕ} {source ux uy target target' : List ℤ} {ps : List Particle} {r : Gathered} (s : Holds nx ny source ps) (room : length target ≡ length source) (g : GathersFrom w first nx ny ps ux uy target target' r) (done : told_gathered r ≡ gives tt) where
+module _ {w : ℕ → ℕ → ℤ} {first nx ny : ℕ} {source ux uy target target' : List ℤ} {ps : List Particle} {r : Result Unit Refusal} (s : Holds nx ny source ps) (room : length target ≡ length source) (g : GathersFrom w first nx ny ps ux uy target target' r) (done : told r ≡ gives tt) where
   passes : answer_from w first nx ny ux uy ps ≡ gives tt
   passes = sym g.answer ∙ done
 

@@ -5,6 +5,7 @@
 --     storable            a record that passes its checks fits its place
 --     moves               the helper `settle` makes the move
 -- Assumes nothing.
+use Rattle.std.proofs.Common.{Result}
 use mathlib.Core.Path.{◌≡◌, refl, ◌∙◌}
 use mathlib.Core.List.{List}
 use Prim.Native.Nat.{ℕ, ◌+◌, ◌-◌, ◌*◌, ◌≤◌, ◌<◌}
@@ -15,17 +16,17 @@ use lib.IntN.{ℤ, pos, nat_abs, ◌+ℤ◌}
 use mir.Facts.{and_yes}
 use Rattle.arith.specs.Size.{bound-widen}
 use Rattle.limits.specs.Limits.{most_side, most_velocity, most_affine, most_position}
+use Rattle.refusal.specs.declared.Refusal.{Refusal}
 use Rattle.spline.specs.Spline.{nearest_node, on_axis}
 use Rattle.spline.proofs.Axis.{Touched, touched}
-use Rattle.refusal.specs.Refused.{gives, kept_unless}
+use Rattle.refusal.specs.Refused.{gives, kept_unless, told}
 use Rattle.particle.specs.declared.Particle.{Particle}
 use Rattle.apic.specs.Step.{moved, gathered_affine}
 use Rattle.apic.specs.Limits.{SizeLimits}
 use Rattle.unpacked.specs.Unpacked.{per_particle, HoldsAt}
 use Rattle.gather_point.specs.declared.AffineVelocity.{AffineVelocity}
-use Rattle.gathering.specs.declared.Gathered.{Gathered}
 use Rattle.gather_point.specs.Point.{Around}
-use Rattle.gathering.specs.Gather.{gathered, move_check, told_gathered, NodeVelocities}
+use Rattle.gathering.specs.Gather.{gathered, move_check, NodeVelocities}
 use Rattle.gathering.specs.Parts.{check_of, Narrow, particle_stored, moved_stored, Storable, Settled, MovesOne, along_x_of, along_y_of}
 use Rattle.gather_point.proofs.Nodes.{axis_of, nodes-inside}
 use Rattle.gathering.proofs.Checks.{checked}
@@ -91,14 +92,14 @@ storable index nx ny at {x = x} {y = y} {a = a} {b = b} sizes room mass e =
     small : (n : ℕ) (z : ℤ) → T (leb n 32767) → nat_abs z ≤ n → Narrow z
     small n z t l = bound-widen (leb→le n 32767 t) (record { size = l })
 
-pub moves : (nx ny index k : ℕ) (p q : Particle) {mass x y : ℤ} {a b : AffineVelocity} {target target' : List ℤ} {r : Gathered} → Settled index k nx ny mass (x +ℤ a.v) (y +ℤ b.v) a b target target' r → mass ≡ pos p.mass → x ≡ pos p.x → y ≡ pos p.y → a ≡ along_x_of q → b ≡ along_y_of q → MovesOne nx ny index k p q target target' r
+pub moves : (nx ny index k : ℕ) (p q : Particle) {mass x y : ℤ} {a b : AffineVelocity} {target target' : List ℤ} {r : Result Unit Refusal} → Settled index k nx ny mass (x +ℤ a.v) (y +ℤ b.v) a b target target' r → mass ≡ pos p.mass → x ≡ pos p.x → y ≡ pos p.y → a ≡ along_x_of q → b ≡ along_y_of q → MovesOne nx ny index k p q target target' r
 unfolding check_of move_check moved_stored
 moves nx ny index k p q {target} {r} s is-mass is_x is_y is-a is_b =
     record {
       answer = s.answer ∙ (λ i. check_of index nx ny (is_x i +ℤ (is-a i).v) (is_y i +ℤ (is_b i).v) (is-a i) (is_b i));
       target_is =
           s.target_is
-          ∙ (λ i. kept_unless (told_gathered r) (particle_stored target (per_particle * k) (is-mass i) (is_x i +ℤ (is-a i).v) (is_y i +ℤ (is_b i).v) (is-a i) (is_b i)) target);
+          ∙ (λ i. kept_unless (told r) (particle_stored target (per_particle * k) (is-mass i) (is_x i +ℤ (is-a i).v) (is_y i +ℤ (is_b i).v) (is-a i) (is_b i)) target);
     }
 
 -- a particle's own axes after the gather

@@ -3,6 +3,7 @@
 --     start, turn, stop, end     it begins, goes on, leaves with a refusal, and ends
 --     Walks, with the same laws  this for whichever particles the source holds
 -- Assumes nothing.
+use Rattle.std.proofs.Common.{Result, Ok, Err}
 use mathlib.Core.Path.{◌≡◌, refl, sym, ap, ap₂, subst, ◌∙◌}
 use mathlib.Core.List.{List, [], ◌∷◌, ◌++◌, map, map-append}
 use Prim.Native.Nat.{ℕ, suc, ◌+◌, ◌-◌, ◌*◌, ◌/◌, ◌≤◌, ◌<◌}
@@ -14,39 +15,25 @@ use lib.Seq.{take-suc, drop-cons, drop-length, drop-drop, length-take-le}
 use lib.IntN.{ℤ, pos}
 use lib.Signed.{pos-nat_abs}
 use Rattle.refusal.specs.declared.Refusal.{Refusal}
-use Rattle.refusal.specs.Refused.{Answer, gives, number, place, refused_by, kept_unless}
+use Rattle.refusal.specs.Refused.{Answer, gives, number, place, refused_by, told}
 use Rattle.particle.specs.declared.Particle.{Particle}
 use Rattle.apic.specs.Step.{moved, new_coordinate, along_x, along_y}
 use Rattle.unpacked.specs.Unpacked.{per_particle, unpacked, Holds}
 use Rattle.unpacked.proofs.Laws.{numbers-count, many, holds_at, nobody, stored, length-stored, take-stored, drop-stored}
-use Rattle.gathering.specs.declared.Gathered.{Gathered}
-use Rattle.gathering.specs.declared.Gathered.TheVariants.{Done, Refused}
-use Rattle.gathering.specs.Gather.{gathered, move_checks, answer_from, told_gathered, moved_before, moved_into, target_from, GathersFrom, Gathers}
-use Rattle.gathering.specs.Parts.{three_stored, particle_stored, moved_stored, MovesOne, MovesAt}
+use Rattle.gathering.specs.Gather.{gathered, move_checks, answer_from, moved_before, moved_into, target_from, GathersFrom, Gathers}
+use Rattle.gathering.specs.Parts.{particle_stored, moved_stored, MovesOne, MovesAt}
 use Rattle.gathering.proofs.Checks.{follow, check-follow, refused-at, Passed, passed}
 
 -- ---- a record that passes is stored whole
 
 stored_is : (w : ℕ → ℕ → ℤ) (nx ny : ℕ) (ux uy : List ℤ) (l : List ℤ) (at : ℕ) (p : Particle) → Passed nx ny p (gathered w nx ny ux uy p) → moved_stored l at p (gathered w nx ny ux uy p) ≡ stored l at (gathered w nx ny ux uy p)
-unfolding moved_stored particle_stored three_stored moved
+unfolding moved_stored particle_stored moved
 stored_is w nx ny ux uy l at p h =
     λ i. set (set (set (set (set (set (set (set (set l at (pos p.mass))
     (at + 1) (sym (pos-nat_abs (new_coordinate along_x p (gathered w nx ny ux uy p).vx) h.x.0) i))
     (at + 2) (sym (pos-nat_abs (new_coordinate along_y p (gathered w nx ny ux uy p).vy) h.y.0) i))
-    (at + 3) (gathered w nx ny ux uy p).vx) (four i) (gathered w nx ny ux uy p).vy) (five i) (gathered w nx ny ux uy p).bxx)
-    (at + 6) (gathered w nx ny ux uy p).bxy) (seven i) (gathered w nx ny ux uy p).byx) (eight i) (gathered w nx ny ux uy p).byy
-  where
-    four : at + 3 + 1 ≡ at + 4
-    four = omega arith
-
-    five : at + 3 + 2 ≡ at + 5
-    five = omega arith
-
-    seven : at + 6 + 1 ≡ at + 7
-    seven = omega arith
-
-    eight : at + 6 + 2 ≡ at + 8
-    eight = omega arith
+    (at + 3) (gathered w nx ny ux uy p).vx) (at + 4) (gathered w nx ny ux uy p).vy) (at + 5) (gathered w nx ny ux uy p).bxx)
+    (at + 6) (gathered w nx ny ux uy p).bxy) (at + 7) (gathered w nx ny ux uy p).byx) (at + 8) (gathered w nx ny ux uy p).byy
 
 -- ---- the walk over the particles ps
 
@@ -81,7 +68,7 @@ module _ {w : ℕ → ℕ → ℤ} {first nx ny : ℕ} {ps : List Particle} {ux 
       ∙ ap₂ ◌++◌ so_far.taken so_far.behind
       ∙ ap (λ n. moved_into (gathered w nx ny ux uy) n ps target₀) (sym many ∙ ap (λ b. moved_before b first (length ps)) (sym is))
 
-  pub end : length ps ≤ k → GathersFrom w first nx ny ps ux uy target₀ target Done
+  pub end : length ps ≤ k → GathersFrom w first nx ny ps ux uy target₀ target (Ok tt)
   unfolding move_checks
   end h = record { answer = sym passes; target_is = target-of (gives tt) passes (sym all) }
     where
@@ -99,11 +86,11 @@ module _ {w : ℕ → ℕ → ℤ} {first nx ny : ℕ} {ps : List Particle} {ux 
   abbrev next : Particle
   next = gathered w nx ny ux uy (get_or ps k nobody)
 
-  module _ (h : k < length ps) {target' : List ℤ} {r : Gathered} (m : MovesOne nx ny (first + k) k (get_or ps k nobody) (gathered w nx ny ux uy (get_or ps k nobody)) target target' r) where
+  module _ (h : k < length ps) {target' : List ℤ} where
     -- the answer of record k and of those behind it
-    from-here : answer_from w first nx ny ux uy ps ≡ follow (told_gathered r) (checks_from w first nx ny ux uy ps (k + 1))
+    from-here : {r : Result Unit Refusal} → MovesOne nx ny (first + k) k (get_or ps k nobody) (gathered w nx ny ux uy (get_or ps k nobody)) target target' r → answer_from w first nx ny ux uy ps ≡ follow (told r) (checks_from w first nx ny ux uy ps (k + 1))
     unfolding move_checks
-    from-here =
+    from-here m =
         so_far.answer
         ∙ ap (answer_from w (first + k) nx ny ux uy) (drop-cons ps k nobody h)
         ∙ check-follow nx ny here next (first + k) (answer_from w (suc (first + k)) nx ny ux uy (drop (suc k) ps))
@@ -112,24 +99,17 @@ module _ {w : ℕ → ℕ → ℤ} {first nx ny : ℕ} {ps : List Particle} {ux 
         more : suc (first + k) ≡ first + (k + 1)
         more = omega arith
 
-    pub stop : (e : Refusal) → r ≡ Refused e → GathersFrom w first nx ny ps ux uy target₀ target' (Refused e)
-    stop e is =
-        record {
-          answer = sym refuses;
-          target_is = m.target_is ∙ ap (λ a. kept_unless (told_gathered a) (moved_stored target (per_particle * k) here next) target) is ∙ target-of (refused_by e) refuses before;
-        }
+    pub stop : {e : Refusal} → MovesOne nx ny (first + k) k (get_or ps k nobody) (gathered w nx ny ux uy (get_or ps k nobody)) target target' (Err e) → GathersFrom w first nx ny ps ux uy target₀ target' (Err e)
+    stop {e} m = record { answer = sym (from-here m); target_is = m.target_is ∙ target-of (refused_by e) (from-here m) before }
       where
-        refuses : answer_from w first nx ny ux uy ps ≡ refused_by e
-        refuses = from-here ∙ ap (λ a. follow (told_gathered a) (checks_from w first nx ny ux uy ps (k + 1))) is
-
         at-record : place e ≡ first + k
-        at-record = refused-at nx ny here next (first + k) (number e) (place e) (sym m.answer ∙ ap told_gathered is)
+        at-record = refused-at nx ny here next (first + k) (number e) (place e) (sym m.answer)
 
         before : place e - first ≡ k
         before = omega (arith, at-record)
 
-    pub turn : r ≡ Done → Walk w first nx ny ps ux uy target₀ (k + 1) target'
-    turn is =
+    pub turn : MovesOne nx ny (first + k) k (get_or ps k nobody) (gathered w nx ny ux uy (get_or ps k nobody)) target target' (Ok tt) → Walk w first nx ny ps ux uy target₀ (k + 1) target'
+    turn m =
         record {
           most = omega (arith, h);
           room = ap length is-stored ∙ length-stored target (per_particle * k) next ∙ so_far.room;
@@ -138,7 +118,7 @@ module _ {w : ℕ → ℕ → ℤ} {first nx ny : ℕ} {ps : List Particle} {ux 
               ∙ take-stored target (map (gathered w nx ny ux uy) (take k ps)) next k (length-map (take k ps) (gathered w nx ny ux uy) ∙ length-take-le k ps so_far.most) (omega (arith, h, so_far.room)) so_far.taken
               ∙ ap unpacked (sym more);
           behind = ap (drop (per_particle * (k + 1))) is-stored ∙ drop-stored target (per_particle * k) (per_particle * (k + 1)) next (omega arith) ∙ further so_far.behind;
-          answer = from-here ∙ ap (λ a. follow (told_gathered a) (checks_from w first nx ny ux uy ps (k + 1))) is;
+          answer = from-here m;
         }
       where
         one_more : per_particle * k + per_particle ≡ per_particle * (k + 1)
@@ -155,8 +135,7 @@ module _ {w : ℕ → ℕ → ℤ} {first nx ny : ℕ} {ps : List Particle} {ux 
         is-stored : target' ≡ stored target (per_particle * k) next
         is-stored =
             m.target_is
-            ∙ ap (λ a. kept_unless (told_gathered a) (moved_stored target (per_particle * k) here next) target) is
-            ∙ stored_is w nx ny ux uy target (per_particle * k) here (passed nx ny here next (first + k) (gives tt) (sym m.answer ∙ ap told_gathered is)).0
+            ∙ stored_is w nx ny ux uy target (per_particle * k) here (passed nx ny here next (first + k) (gives tt) (sym m.answer)).0
 
         more : map (gathered w nx ny ux uy) (take (k + 1) ps) ≡ map (gathered w nx ny ux uy) (take k ps) ++ next ∷ []
         more =
@@ -175,19 +154,19 @@ walks-start w first nx ny source ux uy target e =
     record { room = e; walk = λ ps s. start w first nx ny ps ux uy target (e ∙ numbers-count s) }
 
 module _ {w : ℕ → ℕ → ℤ} {first nx ny : ℕ} {source ux uy target₀ : List ℤ} {k : ℕ} {target : List ℤ} (so_far : Walks w first nx ny source ux uy target₀ k target) where
-  pub walks-end : length source / per_particle ≤ k → Gathers w first nx ny source ux uy target₀ target Done
+  pub walks-end : length source / per_particle ≤ k → Gathers w first nx ny source ux uy target₀ target (Ok tt)
   walks-end h ps s = end (so_far.walk ps s) (subst (λ n. n ≤ k) (many s) h)
 
-  module _ (h : k < length source / per_particle) {target' : List ℤ} {r : Gathered} (m : MovesAt w nx ny (first + k) k source ux uy target target' r) where
+  module _ (h : k < length source / per_particle) where
     below : {ps : List Particle} → Holds nx ny source ps → k < length ps
     below s = subst (λ n. k < n) (many s) h
 
-    pub walks-stop : (e : Refusal) → r ≡ Refused e → Gathers w first nx ny source ux uy target₀ target' (Refused e)
-    walks-stop e is ps s = stop (so_far.walk ps s) (below s) (m (get_or ps k nobody) (holds_at s k nobody (below s))) e is
+    pub walks-stop : {target' : List ℤ} {e : Refusal} → MovesAt w nx ny (first + k) k source ux uy target target' (Err e) → Gathers w first nx ny source ux uy target₀ target' (Err e)
+    walks-stop m ps s = stop (so_far.walk ps s) (below s) (m (get_or ps k nobody) (holds_at s k nobody (below s)))
 
-    pub walks_turn : length target' ≡ length target → r ≡ Done → Walks w first nx ny source ux uy target₀ (k + 1) target'
-    walks_turn long is =
+    pub walks_turn : {target' : List ℤ} → length target' ≡ length target → MovesAt w nx ny (first + k) k source ux uy target target' (Ok tt) → Walks w first nx ny source ux uy target₀ (k + 1) target'
+    walks_turn long m =
         record {
           room = long ∙ so_far.room;
-          walk = λ ps s. turn (so_far.walk ps s) (below s) (m (get_or ps k nobody) (holds_at s k nobody (below s))) is;
+          walk = λ ps s. turn (so_far.walk ps s) (below s) (m (get_or ps k nobody) (holds_at s k nobody (below s)));
         }

@@ -1,17 +1,16 @@
 -- Document 01, "Gather", once the nodes' velocities are checked: the particles that it leaves, and what it is refused for.
 -- Assumes nothing.
-use Rattle.std.specs.Prelude.{◌≡◌, Bool, not, ◌&&◌, ◌||◌, List, [], ◌∷◌, ◌++◌, map, ℕ, suc, ◌-◌, ◌*◌, ◌≤◌, ltb, length, take, drop, ℤ, nat_abs}
+use Rattle.refusal.specs.declared.Refusal.{Refusal}
+use Rattle.std.specs.Prelude.{◌≡◌, Bool, not, ◌&&◌, ◌||◌, List, [], ◌∷◌, ◌++◌, map, ℕ, suc, ◌-◌, ◌*◌, ◌≤◌, ltb, length, take, drop, ℤ, nat_abs, Result}
 use Rattle.std.specs.Int.Signed.{non_neg}
 use Rattle.arith.specs.Rounding.{rounded}
 use Rattle.arith.specs.Sums.{Each}
-use Rattle.refusal.specs.Refused.{Answer, gives, refused, refused_by, refuse_if}
+use Rattle.refusal.specs.Refused.{Answer, gives, refused, refuse_if, told}
 use Rattle.limits.specs.Limits.{most_velocity, most_affine, most_node_velocity}
 use Rattle.spline.specs.Spline.{on_axis}
 use Rattle.particle.specs.declared.Particle.{Particle}
 use Rattle.apic.specs.Step.{moved, node, new_coordinate, along_x, along_y}
 use Rattle.unpacked.specs.Unpacked.{per_particle, unpacked, Holds, UnpackedSet}
-use Rattle.gathering.specs.declared.Gathered.{Gathered}
-use Rattle.gathering.specs.declared.Gathered.TheVariants.{Done, Refused}
 
 -- the particle after the gather, from node velocities that stand in two lists: the engine's rounding, and axis weights w
 abbrev pub gathered : (ℕ → ℕ → ℤ) → ℕ → ℕ → List ℤ → List ℤ → Particle → Particle
@@ -59,10 +58,6 @@ answer_from w first nx ny ux uy ps = move_checks nx ny (gathered w nx ny ux uy) 
 
 -- ---- what `gather_from` asks and promises
 
-abbrev pub told_gathered : Gathered → Answer (Unit {0})
-told_gathered Done = gives tt
-told_gathered (Refused e) = refused_by e
-
 -- velocities of nx by ny nodes, none beyond ±131,072
 pub record NodeVelocities (nx ny : ℕ) (u : List ℤ) : Type 0 where
   pub count : length u ≡ nx * ny
@@ -88,11 +83,11 @@ target_from w first nx ny ux uy ps target =
     moved_into (gathered w nx ny ux uy) (moved_before (answer_from w first nx ny ux uy ps) first (length ps)) ps target
 
 -- the answer, and the target afterwards, for a target of any content
-pub record GathersFrom (w : ℕ → ℕ → ℤ) (first nx ny : ℕ) (ps : List Particle) (ux uy target target' : List ℤ) (r : Gathered) : Type 0 where
-  pub answer : told_gathered r ≡ answer_from w first nx ny ux uy ps
+pub record GathersFrom (w : ℕ → ℕ → ℤ) (first nx ny : ℕ) (ps : List Particle) (ux uy target target' : List ℤ) (r : Result Unit Refusal) : Type 0 where
+  pub answer : told r ≡ answer_from w first nx ny ux uy ps
   pub target_is : target' ≡ target_from w first nx ny ux uy ps target
 
 -- whichever particles the source holds
-abbrev pub Gathers : (ℕ → ℕ → ℤ) → ℕ → ℕ → ℕ → List ℤ → List ℤ → List ℤ → List ℤ → List ℤ → Gathered → Type 0
+abbrev pub Gathers : (ℕ → ℕ → ℤ) → ℕ → ℕ → ℕ → List ℤ → List ℤ → List ℤ → List ℤ → List ℤ → (Result Unit Refusal) → Type 0
 Gathers w first nx ny source ux uy target target' r =
     (ps : List Particle) → Holds nx ny source ps → GathersFrom w first nx ny ps ux uy target target' r

@@ -1,11 +1,3 @@
-// The gather of a set, once the nodes' velocities are checked: its answer. What it does stands in specs/, what follows from it in
+// The gather of a set, once the nodes' velocities are checked. What it does stands in specs/, what follows from it in
 // proofs/.
 #![tactic(auto)]
-
-use refusal::Refusal;
-
-#[derive(Drop)]
-pub enum Gathered {
-    Done,
-    Refused(Refusal),
-}

@@ -1,33 +1,16 @@
 // The operations for programs in other languages: numbers and slices in, one number out, and values through the caller's arrays.
-// Those that have two callers are the bench's here and the lesson page's in `page`. include/gondwize.h declares them for C.
+// Those that have two callers are in crate `by_caller`. Crate `gondwize_c` exports all of them to C.
 #![tactic(auto)]
 
-pub mod page;
-
 ghost use Rattle.std.specs.Prelude.{◌≡◌};
-ghost use Rattle.limits.specs.declared.Caller.TheVariants.{Bench};
 ghost use Rattle.particle.specs.Record.{numbers, read_answer, write_answer, written};
-ghost use Rattle.particles.specs.Set.{check_answer};
-ghost use Rattle.totals.specs.Totals.{totals_answer, sums};
 ghost use Rattle.spline.specs.Answers.{weights_answer};
-ghost use Rattle.transfer.specs.Transfer.{ScatterIs, GatherIs};
-ghost use Rattle.adding.specs.Adding.{AddingIs};
-ghost use Rattle.update.specs.Update.{UpdateIs};
-ghost use Rattle.apic.specs.Step.{grids_of};
-ghost use Rattle.simulation.specs.Step.{Sees, step_after};
-ghost use Rattle.bath_file.specs.File.{file_answer};
 ghost use Rattle.bath_file.specs.File as file;
-ghost use Rattle.store.specs.Operations.{keep_answer, keep_leaves, return_answer, return_leaves, forget_answer, forget_leaves, length_of};
-ghost use Rattle.wide.specs.Values.{weight_values, settings, particle_with, header_with};
-ghost use Rattle.coding.specs.Coded.{coded, Gives, Tells};
-ghost use Rattle.settings.specs.Settings.{settings_with};
-ghost use Rattle.coding.specs.Runs.{RunTells};
+ghost use Rattle.store.specs.Operations.{return_answer, return_leaves, forget_answer, forget_leaves, length_of};
+ghost use Rattle.wide.specs.Values.{weight_values, particle_with, header_with};
+ghost use Rattle.coding.specs.Coded.{coded, Gives};
 
-use bath_file::HeaderWritten;
-use limits::Caller;
-use particle::{NUMBERS, Read, Written};
-use spline::Weighed;
-use store::{Changed, Returned};
+use particle::NUMBERS;
 use wide::answer;
 
 // Read a record: eleven values.
@@ -35,8 +18,8 @@ pub fn gondwize_read_record(bytes: &[u8], values: &mut [i64; NUMBERS]) -> u64
     ensures { Gives (read_answer 0 bytes.now) numbers values.old result values.new }
 {
     match record_reader::read_record(bytes) {
-        Read::Refused(refusal) => answer::code(refusal),
-        Read::Found(p) => {
+        Err(refusal) => answer::code(refusal),
+        Ok(p) => {
             *values = record_reader::numbers_of(p);
             0
         }
@@ -62,29 +45,7 @@ pub fn gondwize_write_record(
     ensures buffer { bytes.new ≡ written (particle_with identifier mass x y vx vy bxx bxy byx byy marks) bytes.old }
 {
     let p = wide::particle(identifier, mass, x, y, vx, vy, bxx, bxy, byx, byy, marks);
-    match record_writer::write_record(p, bytes) {
-        Written::Refused(refusal) => answer::code(refusal),
-        Written::Done => 0,
-    }
-}
-
-// Check a set: one value, the number of records.
-pub fn gondwize_check_set(nx: usize, ny: usize, records: &[u8], count: &mut u64) -> u64
-    ensures { Gives (check_answer Bench nx ny records.now) (λ n. n) count.old result count.new }
-{
-    by_caller::check_set(Caller::Bench, nx, ny, records, count)
-}
-
-// Totals: six values.
-pub fn gondwize_totals(
-    nx: usize,
-    ny: usize,
-    records: &[u8],
-    values: &mut [i64; totals::SUMS],
-) -> u64
-    ensures { Gives (totals_answer Bench nx ny records.now) sums values.old result values.new }
-{
-    by_caller::totals(Caller::Bench, nx, ny, records, values)
+    coding::coded(record_writer::write_record(p, bytes))
 }
 
 // Weights: three values.
@@ -92,164 +53,12 @@ pub fn gondwize_weights(q: i64, values: &mut [i64; 3]) -> u64
     ensures { Gives (weights_answer q) weight_values values.old result values.new }
 {
     match spline::weights(q) {
-        Weighed::Refused(refusal) => answer::code(refusal),
-        Weighed::Weights(w) => {
+        Err(refusal) => answer::code(refusal),
+        Ok(w) => {
             *values = wide::of_weights(w);
             0
         }
     }
-}
-
-// Scatter.
-pub fn gondwize_scatter(
-    nx: usize,
-    ny: usize,
-    records: &[u8],
-    mass: &mut [u64],
-    px: &mut [i64],
-    py: &mut [i64],
-) -> u64
-    ensures { Tells (λ told. ScatterIs Bench nx ny records.now
-        mass.old px.old py.old told
-        mass.new px.new py.new) result }
-{
-    by_caller::scatter(Caller::Bench, nx, ny, records, mass, px, py)
-}
-
-// The adding scatter.
-pub fn gondwize_adding_scatter(
-    nx: usize,
-    ny: usize,
-    records: &[u8],
-    mass: &mut [u64],
-    px: &mut [i64],
-    py: &mut [i64],
-) -> u64
-    ensures { Tells (λ told. AddingIs Bench nx ny records.now
-        mass.old px.old py.old told
-        mass.new px.new py.new) result }
-{
-    by_caller::adding_scatter(Caller::Bench, nx, ny, records, mass, px, py)
-}
-
-// Update.
-pub fn gondwize_update(
-    nx: usize,
-    ny: usize,
-    gx: i64,
-    gy: i64,
-    kind: usize,
-    width: usize,
-    drag: usize,
-    mass: &[u64],
-    px: &mut [i64],
-    py: &mut [i64],
-) -> u64
-    ensures { Tells (λ told. UpdateIs Bench (settings_with nx ny gx gy kind width drag)
-        mass.now px.old py.old told
-        px.new py.new) result }
-{
-    by_caller::update(
-        Caller::Bench,
-        nx,
-        ny,
-        gx,
-        gy,
-        kind,
-        width,
-        drag,
-        mass,
-        px,
-        py,
-    )
-}
-
-// Gather.
-pub fn gondwize_gather(nx: usize, ny: usize, records: &mut [u8], ux: &[i64], uy: &[i64]) -> u64
-    ensures { Tells (λ told. GatherIs Bench nx ny
-        records.old ux.now uy.now told
-        records.new) result }
-{
-    by_caller::gather(Caller::Bench, nx, ny, records, ux, uy)
-}
-
-// Step.
-pub fn gondwize_step(
-    nx: usize,
-    ny: usize,
-    gx: i64,
-    gy: i64,
-    kind: usize,
-    width: usize,
-    drag: usize,
-    records: &mut [u8],
-    mass: &mut [u64],
-    px: &mut [i64],
-    py: &mut [i64],
-) -> u64
-    ensures { Tells (λ told. Sees (step_after Bench (settings_with nx ny gx gy kind width drag)
-        records.old (grids_of mass.old px.old py.old)) told
-        records.new mass.new px.new py.new) result }
-{
-    by_caller::step(
-        Caller::Bench,
-        nx,
-        ny,
-        gx,
-        gy,
-        kind,
-        width,
-        drag,
-        records,
-        mass,
-        px,
-        py,
-    )
-}
-
-// Run: one value, the number of completed steps.
-pub fn gondwize_run(
-    nx: usize,
-    ny: usize,
-    gx: i64,
-    gy: i64,
-    kind: usize,
-    width: usize,
-    drag: usize,
-    steps: usize,
-    records: &mut [u8],
-    mass: &mut [u64],
-    px: &mut [i64],
-    py: &mut [i64],
-    completed: &mut u64,
-) -> u64
-    ensures { RunTells Bench (settings_with nx ny gx gy kind width drag) steps
-        records.old (grids_of mass.old px.old py.old) result
-        records.new mass.new px.new py.new completed.new }
-{
-    coding::run_told(
-        Caller::Bench,
-        nx,
-        ny,
-        gx,
-        gy,
-        kind,
-        width,
-        drag,
-        steps,
-        records,
-        mass,
-        px,
-        py,
-        completed,
-    )
-}
-
-// Read a file: nine values.
-pub fn gondwize_read_file(bytes: &[u8], values: &mut [i64; wide::SETTINGS]) -> u64
-    ensures { Gives (file_answer Bench bytes.now) settings values.old result values.new }
-{
-    by_caller::read_file(Caller::Bench, bytes, values)
 }
 
 // Write a header.
@@ -269,18 +78,7 @@ pub fn gondwize_write_header(
     ensures buffer { bytes.new ≡ file.written (header_with nx ny gx gy count steps kind width drag) bytes.old }
 {
     let h = wide::header(nx, ny, gx, gy, count, steps, kind, width, drag);
-    match header_writer::write_header(h, bytes) {
-        HeaderWritten::Refused(refusal) => answer::code(refusal),
-        HeaderWritten::Done => 0,
-    }
-}
-
-// Keep.
-pub fn gondwize_keep(store: &mut [u8], name: &[u8], file: &[u8]) -> u64
-    ensures answer { result ≡ coded (keep_answer Bench store.old name.now file.now) }
-    ensures store { store.new ≡ keep_leaves Bench store.old name.now file.now }
-{
-    by_caller::keep(Caller::Bench, store, name, file)
+    coding::coded(header_writer::write_header(h, bytes))
 }
 
 // Return: one value, the length of the file.
@@ -289,8 +87,8 @@ pub fn gondwize_return(store: &[u8], name: &[u8], buffer: &mut [u8], size: &mut 
     ensures buffer { buffer.new ≡ return_leaves store.now name.now buffer.old }
 {
     match store_calls::return_to(store, name, buffer) {
-        Returned::Refused(refusal) => answer::code(refusal),
-        Returned::Length(found) => {
+        Err(refusal) => answer::code(refusal),
+        Ok(found) => {
             *size = found as u64;
             0
         }
@@ -302,8 +100,5 @@ pub fn gondwize_forget(store: &mut [u8], name: &[u8]) -> u64
     ensures answer { result ≡ coded (forget_answer store.old name.now) }
     ensures store { store.new ≡ forget_leaves store.old name.now }
 {
-    match store_calls::forget(store, name) {
-        Changed::Refused(refusal) => answer::code(refusal),
-        Changed::Done => 0,
-    }
+    coding::coded(store_calls::forget(store, name))
 }

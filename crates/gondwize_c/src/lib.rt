@@ -1,5 +1,6 @@
-// The operations for C: each function of the crate `gondwize` under its own name, by the C calling convention. Those that have two
-// callers are the bench's here and the lesson page's in `page`. include/gondwize.h declares them.
+// The operations for C, each under its own name and by the C calling convention, with the clauses of the function that it calls: of
+// crate `gondwize`, or of `by_caller` or `coding` where there are two callers, the bench here and the lesson page in `page`.
+// include/gondwize.h declares them.
 #![tactic(auto)]
 
 pub mod page;
@@ -23,6 +24,7 @@ ghost use Rattle.coding.specs.Coded.{coded, Gives, Tells};
 ghost use Rattle.settings.specs.Settings.{settings_with};
 ghost use Rattle.coding.specs.Runs.{RunTells};
 
+use limits::Caller;
 use particle::NUMBERS;
 
 // Read a record: eleven values.
@@ -62,7 +64,7 @@ pub extern "C" fn gondwize_write_record(
 pub extern "C" fn gondwize_check_set(nx: usize, ny: usize, records: &[u8], count: &mut u64) -> u64
     ensures { Gives (check_answer Bench nx ny records.now) (λ n. n) count.old result count.new }
 {
-    gondwize::gondwize_check_set(nx, ny, records, count)
+    by_caller::check_set(Caller::Bench, nx, ny, records, count)
 }
 
 // Totals: six values.
@@ -75,7 +77,7 @@ pub extern "C" fn gondwize_totals(
 ) -> u64
     ensures { Gives (totals_answer Bench nx ny records.now) sums values.old result values.new }
 {
-    gondwize::gondwize_totals(nx, ny, records, values)
+    by_caller::totals(Caller::Bench, nx, ny, records, values)
 }
 
 // Weights: three values.
@@ -100,7 +102,7 @@ pub extern "C" fn gondwize_scatter(
         mass.old px.old py.old told
         mass.new px.new py.new) result }
 {
-    gondwize::gondwize_scatter(nx, ny, records, mass, px, py)
+    by_caller::scatter(Caller::Bench, nx, ny, records, mass, px, py)
 }
 
 // The adding scatter.
@@ -117,7 +119,7 @@ pub extern "C" fn gondwize_adding_scatter(
         mass.old px.old py.old told
         mass.new px.new py.new) result }
 {
-    gondwize::gondwize_adding_scatter(nx, ny, records, mass, px, py)
+    by_caller::adding_scatter(Caller::Bench, nx, ny, records, mass, px, py)
 }
 
 // Update.
@@ -138,7 +140,19 @@ pub extern "C" fn gondwize_update(
         mass.now px.old py.old told
         px.new py.new) result }
 {
-    gondwize::gondwize_update(nx, ny, gx, gy, kind, width, drag, mass, px, py)
+    by_caller::update(
+        Caller::Bench,
+        nx,
+        ny,
+        gx,
+        gy,
+        kind,
+        width,
+        drag,
+        mass,
+        px,
+        py,
+    )
 }
 
 // Gather.
@@ -154,7 +168,7 @@ pub extern "C" fn gondwize_gather(
         records.old ux.now uy.now told
         records.new) result }
 {
-    gondwize::gondwize_gather(nx, ny, records, ux, uy)
+    by_caller::gather(Caller::Bench, nx, ny, records, ux, uy)
 }
 
 // Step.
@@ -176,7 +190,20 @@ pub extern "C" fn gondwize_step(
         records.old (grids_of mass.old px.old py.old)) told
         records.new mass.new px.new py.new) result }
 {
-    gondwize::gondwize_step(nx, ny, gx, gy, kind, width, drag, records, mass, px, py)
+    by_caller::step(
+        Caller::Bench,
+        nx,
+        ny,
+        gx,
+        gy,
+        kind,
+        width,
+        drag,
+        records,
+        mass,
+        px,
+        py,
+    )
 }
 
 // Run: one value, the number of completed steps.
@@ -200,8 +227,21 @@ pub extern "C" fn gondwize_run(
         records.old (grids_of mass.old px.old py.old) result
         records.new mass.new px.new py.new completed.new }
 {
-    gondwize::gondwize_run(
-        nx, ny, gx, gy, kind, width, drag, steps, records, mass, px, py, completed,
+    coding::run_told(
+        Caller::Bench,
+        nx,
+        ny,
+        gx,
+        gy,
+        kind,
+        width,
+        drag,
+        steps,
+        records,
+        mass,
+        px,
+        py,
+        completed,
     )
 }
 
@@ -210,7 +250,7 @@ pub extern "C" fn gondwize_run(
 pub extern "C" fn gondwize_read_file(bytes: &[u8], values: &mut [i64; wide::SETTINGS]) -> u64
     ensures { Gives (file_answer Bench bytes.now) settings values.old result values.new }
 {
-    gondwize::gondwize_read_file(bytes, values)
+    by_caller::read_file(Caller::Bench, bytes, values)
 }
 
 // Write a header.
@@ -239,7 +279,7 @@ pub extern "C" fn gondwize_keep(store: &mut [u8], name: &[u8], file: &[u8]) -> u
     ensures answer { result ≡ coded (keep_answer Bench store.old name.now file.now) }
     ensures store { store.new ≡ keep_leaves Bench store.old name.now file.now }
 {
-    gondwize::gondwize_keep(store, name, file)
+    by_caller::keep(Caller::Bench, store, name, file)
 }
 
 // Return: one value, the length of the file.

@@ -1,4 +1,4 @@
-// The operations of the lesson page, the second caller, for C.
+// The operations of the lesson page, the second caller, for C, which has a name for each operation of each caller.
 ghost use Rattle.std.specs.Prelude.{◌≡◌};
 ghost use Rattle.limits.specs.declared.Caller.TheVariants.{Page};
 ghost use Rattle.particles.specs.Set.{check_answer};
@@ -15,6 +15,8 @@ ghost use Rattle.wide.specs.Values.{settings};
 ghost use Rattle.coding.specs.Coded.{coded, Gives, Tells};
 ghost use Rattle.coding.specs.Runs.{RunTells};
 
+use limits::Caller;
+
 // Check a set.
 #[unsafe(no_mangle)]
 pub extern "C" fn gondwize_page_check_set(
@@ -25,7 +27,7 @@ pub extern "C" fn gondwize_page_check_set(
 ) -> u64
     ensures { Gives (check_answer Page nx ny records.now) (λ n. n) count.old result count.new }
 {
-    gondwize::page::gondwize_page_check_set(nx, ny, records, count)
+    by_caller::check_set(Caller::Page, nx, ny, records, count)
 }
 
 // Totals.
@@ -38,7 +40,7 @@ pub extern "C" fn gondwize_page_totals(
 ) -> u64
     ensures { Gives (totals_answer Page nx ny records.now) sums values.old result values.new }
 {
-    gondwize::page::gondwize_page_totals(nx, ny, records, values)
+    by_caller::totals(Caller::Page, nx, ny, records, values)
 }
 
 // Scatter.
@@ -55,7 +57,7 @@ pub extern "C" fn gondwize_page_scatter(
         mass.old px.old py.old told
         mass.new px.new py.new) result }
 {
-    gondwize::page::gondwize_page_scatter(nx, ny, records, mass, px, py)
+    by_caller::scatter(Caller::Page, nx, ny, records, mass, px, py)
 }
 
 // The adding scatter.
@@ -72,7 +74,7 @@ pub extern "C" fn gondwize_page_adding_scatter(
         mass.old px.old py.old told
         mass.new px.new py.new) result }
 {
-    gondwize::page::gondwize_page_adding_scatter(nx, ny, records, mass, px, py)
+    by_caller::adding_scatter(Caller::Page, nx, ny, records, mass, px, py)
 }
 
 // Update.
@@ -93,7 +95,19 @@ pub extern "C" fn gondwize_page_update(
         mass.now px.old py.old told
         px.new py.new) result }
 {
-    gondwize::page::gondwize_page_update(nx, ny, gx, gy, kind, width, drag, mass, px, py)
+    by_caller::update(
+        Caller::Page,
+        nx,
+        ny,
+        gx,
+        gy,
+        kind,
+        width,
+        drag,
+        mass,
+        px,
+        py,
+    )
 }
 
 // Gather.
@@ -109,7 +123,7 @@ pub extern "C" fn gondwize_page_gather(
         records.old ux.now uy.now told
         records.new) result }
 {
-    gondwize::page::gondwize_page_gather(nx, ny, records, ux, uy)
+    by_caller::gather(Caller::Page, nx, ny, records, ux, uy)
 }
 
 // Step.
@@ -131,7 +145,20 @@ pub extern "C" fn gondwize_page_step(
         records.old (grids_of mass.old px.old py.old)) told
         records.new mass.new px.new py.new) result }
 {
-    gondwize::page::gondwize_page_step(nx, ny, gx, gy, kind, width, drag, records, mass, px, py)
+    by_caller::step(
+        Caller::Page,
+        nx,
+        ny,
+        gx,
+        gy,
+        kind,
+        width,
+        drag,
+        records,
+        mass,
+        px,
+        py,
+    )
 }
 
 // Run.
@@ -155,8 +182,21 @@ pub extern "C" fn gondwize_page_run(
         records.old (grids_of mass.old px.old py.old) result
         records.new mass.new px.new py.new completed.new }
 {
-    gondwize::page::gondwize_page_run(
-        nx, ny, gx, gy, kind, width, drag, steps, records, mass, px, py, completed,
+    coding::run_told(
+        Caller::Page,
+        nx,
+        ny,
+        gx,
+        gy,
+        kind,
+        width,
+        drag,
+        steps,
+        records,
+        mass,
+        px,
+        py,
+        completed,
     )
 }
 
@@ -165,7 +205,7 @@ pub extern "C" fn gondwize_page_run(
 pub extern "C" fn gondwize_page_read_file(bytes: &[u8], values: &mut [i64; wide::SETTINGS]) -> u64
     ensures { Gives (file_answer Page bytes.now) settings values.old result values.new }
 {
-    gondwize::page::gondwize_page_read_file(bytes, values)
+    by_caller::read_file(Caller::Page, bytes, values)
 }
 
 // Keep.
@@ -174,5 +214,5 @@ pub extern "C" fn gondwize_page_keep(store: &mut [u8], name: &[u8], file: &[u8])
     ensures answer { result ≡ coded (keep_answer Page store.old name.now file.now) }
     ensures store { store.new ≡ keep_leaves Page store.old name.now file.now }
 {
-    gondwize::page::gondwize_page_keep(store, name, file)
+    by_caller::keep(Caller::Page, store, name, file)
 }

@@ -2,7 +2,7 @@
 --     spot, three-spots      what is added at each place by one addition, and by three at neighbours
 --     added-at, added-row    what stands at each place afterwards
 --     cells_at, cells-row    a bound on every cell, before and after
---     masses-at, masses-row  the same of masses, read as integers
+--     values-at, values-row  the same of cells of any kind, read as integers
 -- Assumes nothing.
 use mathlib.Core.Path.{◌≡◌, refl, sym, ap, ap₂, ◌∙◌}
 use mathlib.Core.Bool.{cond}
@@ -16,7 +16,7 @@ use lib.IntN.{ℤ, pos, ◌+ℤ◌, +ℤ_idr, +ℤ_idl, +ℤ_assoc}
 use borrow.Author.Tests.{eq-eqb, ne_eqb}
 use Rattle.arith.specs.Size.{Bound, bound-sum, bound-widen}
 use Rattle.arith.specs.Neighbours.{neighbours, Place, place, lower, nearest, upper, far, by_place, at-lower, at-nearest, at-upper, at-far}
-use Rattle.grid_cells.specs.Cells.{add_at, add_row, add_mass_at, add_mass_row, Cells}
+use Rattle.grid_cells.specs.Cells.{CellLaws, mass_laws, sum_at, sum_row, add_at, add_row, add_mass_row, Cells}
 
 -- ---- one cell
 
@@ -38,11 +38,11 @@ spot-bound k v m n b =
 
 module _ (l : List ℤ) (k : ℕ) (v : ℤ) where
   pub length_at : length (add_at l k v) ≡ length l
-  unfolding add_at
+  unfolding sum_at
   length_at = length-set l k (get_or l k (pos 0) +ℤ v)
 
   pub added-at : k < length l → (m : ℕ) → get_or (add_at l k v) m (pos 0) ≡ get_or l m (pos 0) +ℤ spot k v m
-  unfolding add_at
+  unfolding sum_at
   added-at h m =
       by_place m k (get_or (add_at l k v) m (pos 0) ≡ get_or l m (pos 0) +ℤ spot k v m)
       (λ e.
@@ -94,12 +94,12 @@ module _ (l : List ℤ) (k : ℕ) (u v w : ℤ) (low : 1 ≤ k) (high : k + 1 < 
   third-long = rw (length_at (add_at l (k - 1) u) k v, length_at l (k - 1) u) high
 
   pub length-row : length (add_row l k u v w) ≡ length l
-  unfolding add_row
+  unfolding sum_row sum_at
   length-row =
       length_at (add_at (add_at l (k - 1) u) k v) (k + 1) w ∙ length_at (add_at l (k - 1) u) k v ∙ length_at l (k - 1) u
 
   pub added-row : (m : ℕ) → get_or (add_row l k u v w) m (pos 0) ≡ get_or l m (pos 0) +ℤ (spot (k - 1) u m +ℤ spot k v m +ℤ spot (k + 1) w m)
-  unfolding add_row
+  unfolding sum_row sum_at
   added-row m =
       added-at (add_at (add_at l (k - 1) u) k v) (k + 1) w third-long m
       ∙ ap (λ z. z +ℤ spot (k + 1) w m)
@@ -110,29 +110,37 @@ module _ (l : List ℤ) (k : ℕ) (u v w : ℤ) (low : 1 ≤ k) (high : k + 1 < 
       group a b c d = +ℤ_assoc (a +ℤ b) c d ∙ +ℤ_assoc a b (c +ℤ d) ∙ ap (λ z. a +ℤ z) (sym (+ℤ_assoc b c d))
 
   pub cells-row : (n t : ℕ) → Cells n l → Bound u t → Bound v t → Bound w t → Cells (n + t + t + t) (add_row l k u v w)
-  unfolding add_row
+  unfolding sum_row sum_at
   cells-row n t c p q r =
       cells_at (add_at (add_at l (k - 1) u) k v) (k + 1) w (n + t + t) t third-long
       (cells_at (add_at l (k - 1) u) k v (n + t) t second-long (cells_at l (k - 1) u n t (omega arith) c p) q) r
 
--- ---- masses, read as integers
+-- ---- cells, read as integers
 
 map-set : {A B : Type 0} (f : A → B) (l : List A) (k : ℕ) (a : A) → map f (set l k a) ≡ set (map f l) k (f a)
 map-set f [] k a = refl
 map-set f (x ∷ xs) zero a = refl
 map-set f (x ∷ xs) (suc k) a = ap (λ r. f x ∷ r) (map-set f xs k a)
 
-pub masses-at : (l : List ℕ) (k v : ℕ) → map pos (add_mass_at l k v) ≡ add_at (map pos l) k (pos v)
-unfolding add_mass_at add_at
-masses-at l k v =
-    map-set pos l k (get_or l k 0 + v) ∙ ap (λ z. set (map pos l) k (z +ℤ pos v)) (sym (get_or-map pos l k 0))
+module _ {A : Type 0} {zero : A} {sum : A → A → A} {fits : A → A → Type 0} {value : A → ℤ} (laws : CellLaws zero sum fits value) where
+  pub value_at : (l : List A) (k : ℕ) → value (get_or l k zero) ≡ get_or (map value l) k (pos 0)
+  value_at l k = sym (get_or-map value l k zero) ∙ ap (λ d. get_or (map value l) k d) laws.of-zero
+
+  pub values-at : (l : List A) (k : ℕ) (v : A) → map value (sum_at zero sum l k v) ≡ add_at (map value l) k (value v)
+  unfolding sum_at
+  values-at l k v =
+      map-set value l k (sum (get_or l k zero) v)
+      ∙ ap (λ z. set (map value l) k z) (laws.of-sum (get_or l k zero) v ∙ ap (λ z. z +ℤ value v) (value_at l k))
+
+  pub values-row : (l : List A) (k : ℕ) (u v w : A) → map value (sum_row zero sum l k u v w) ≡ add_row (map value l) k (value u) (value v) (value w)
+  unfolding sum_row
+  values-row l k u v w =
+      values-at (sum_at zero sum (sum_at zero sum l (k - 1) u) k v) (k + 1) w
+      ∙ ap (λ m. add_at m (k + 1) (value w)) (values-at (sum_at zero sum l (k - 1) u) k v ∙ ap (λ m. add_at m k (value v)) (values-at l (k - 1) u))
 
 pub masses-row : (l : List ℕ) (k u v w : ℕ) → map pos (add_mass_row l k u v w) ≡ add_row (map pos l) k (pos u) (pos v) (pos w)
-unfolding add_mass_row add_row
-masses-row l k u v w =
-    masses-at (add_mass_at (add_mass_at l (k - 1) u) k v) (k + 1) w
-    ∙ ap (λ m. add_at m (k + 1) (pos w)) (masses-at (add_mass_at l (k - 1) u) k v ∙ ap (λ m. add_at m k (pos v)) (masses-at l (k - 1) u))
+masses-row = values-row mass_laws
 
 pub length-mass-row : (l : List ℕ) (k u v w : ℕ) → length (add_mass_row l k u v w) ≡ length l
-unfolding add_mass_row add_mass_at
+unfolding sum_row sum_at
 length-mass-row l k u v w = simp length-set

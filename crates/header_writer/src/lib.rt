@@ -2,14 +2,14 @@
 #![tactic(auto)]
 
 ghost use Rattle.std.specs.Prelude.{◌≡◌, [], ◌∷◌, length};
-ghost use Rattle.refusal.specs.Refused.{gives};
+ghost use Rattle.refusal.specs.Refused.{gives, told};
 ghost use Rattle.limits.specs.declared.Caller.TheVariants.{Bench};
 ghost use Rattle.bits.specs.Internal.{Below};
 ghost use Rattle.bits.specs.Layout.{widths, filled};
 ghost use Rattle.bath_file.specs.Layout.{layout, header_length};
-ghost use Rattle.bath_file.specs.File.{header_of, checked_header, write_answer, written, told_written};
+ghost use Rattle.bath_file.specs.File.{header_of, checked_header, write_answer, written};
 
-use bath_file::{FileRead, HEADER_LENGTH, Header, HeaderWritten};
+use bath_file::{HEADER_LENGTH, Header};
 use limits::Caller;
 use refusal::Refusal;
 
@@ -30,16 +30,16 @@ fn put(
     requires { Below (widths layout) (nx ∷ ny ∷ gx ∷ gy ∷ count ∷ steps ∷ 0 ∷ kind ∷ width ∷ drag ∷ 0 ∷ []) × (length bytes.old ≡ header_length) }
     ensures { bytes.new ≡ filled layout (nx ∷ ny ∷ gx ∷ gy ∷ count ∷ steps ∷ 0 ∷ kind ∷ width ∷ drag ∷ 0 ∷ []) }
 {
-    let first = nx as u64 * 288230376151711744
-        + ny as u64 * 4503599627370496
-        + gx as u64 * 274877906944
-        + gy as u64 * 16777216
-        + count as u64 * 2048
-        + (steps / 8) as u64;
-    let second = (steps % 8) as u64 * 2097152
-        + kind as u64 * 16384
-        + width as u64 * 4096
-        + drag as u64 * 16;
+    let first = u64::from(nx) * 288230376151711744
+        + u64::from(ny) * 4503599627370496
+        + u64::from(gx) * 274877906944
+        + u64::from(gy) * 16777216
+        + u64::from(count) * 2048
+        + u64::from(steps / 8);
+    let second = u64::from(steps % 8) * 2097152
+        + u64::from(kind) * 16384
+        + u64::from(width) * 4096
+        + u64::from(drag) * 16;
     // The first word takes the place of the second one's five highest bytes.
     bits::put_word(second, bytes, 3);
     bits::put_word(first, bytes, 0);
@@ -67,18 +67,14 @@ fn pack(h: Header, bytes: &mut [u8])
 }
 
 // Write a header: any numbers, any buffer, by the bench's limits. A refused call leaves the buffer as it was.
-pub fn write_header(h: Header, bytes: &mut [u8]) -> HeaderWritten
-    ensures answer { told_written result ≡ write_answer h bytes.old }
+pub fn write_header(h: Header, bytes: &mut [u8]) -> Result<(), Refusal>
+    ensures answer { told result ≡ write_answer h bytes.old }
     ensures buffer { bytes.new ≡ written h bytes.old }
 {
     if bytes.len() != HEADER_LENGTH {
-        return HeaderWritten::Refused(Refusal::Length);
+        return Err(Refusal::Length);
     }
-    match header_check::check_values(Caller::Bench, h) {
-        FileRead::Refused(refusal) => HeaderWritten::Refused(refusal),
-        FileRead::Accepted(accepted) => {
-            pack(accepted, bytes);
-            HeaderWritten::Done
-        }
-    }
+    let accepted = header_check::check_values(Caller::Bench, h)?;
+    pack(accepted, bytes);
+    Ok(())
 }

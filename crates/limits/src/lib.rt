@@ -63,7 +63,7 @@ pub enum Caller {
     Page,
 }
 
-// The most nodes along an axis that a caller may have.
+// The most nodes along an axis that a caller may have. A caller's two limits are read by name, so each has a function.
 pub fn most_side(caller: Caller) -> usize
     ensures { result ≡ most_side_of caller }
 {
@@ -101,6 +101,7 @@ pub fn one_is(a: i16, b: i16, value: i16) -> bool
     between(a, value, value) || between(b, value, value)
 }
 
+// A test by itself: one for every type and pair of limits would be no plainer.
 pub fn mass_is_valid(mass: u16) -> bool
     ensures { result ≡ valid_mass mass }
 {

@@ -1,8 +1,7 @@
-// The lines of the program `cases`: words, lists, records and bytes of a store read from standard input, and what is printed.
+// What the program `cases` reads and prints: words, numbers and lists from standard input, and lines of a letter and numbers.
 #![tactic(auto)]
 
+pub mod console;
 pub mod lists;
-pub mod print;
-pub mod records;
-pub mod stores;
+pub mod operation;
 pub mod words;

@@ -1,51 +1,59 @@
 // Lists of numbers, each behind its length. The last number fills the buffer to its end, and the buffer is lent as far as the
 // length says.
-ghost use Rattle.std.specs.Prelude.{◌≤◌};
-
-use crate::words;
+use crate::console::Console;
+use crate::words::Number;
+use std::io;
 
 // The room of a grid's buffer, and of a name's.
-pub const NODES: usize = 24;
+const NODES: usize = 24;
 
-// A count, or the room where that is less.
-pub fn within(count: usize, room: usize) -> usize
-    ensures { result ≤ room }
-{
-    if count < room { count } else { room }
+#[derive(Drop)]
+pub struct List<T> {
+    room: Vec<T>,
+    length: usize,
 }
 
-pub fn naturals<'a>(list: &'a mut [u64]) -> &'a mut [u64] {
-    let mut word = words::read_word();
-    let count = within(word.bits as usize, list.len());
-    let mut k = 0;
-    while k < list.len() {
-        word = words::next(word);
-        list[k] = word.bits;
-        k += 1;
+impl<T: From<Number> + Drop> List<T> {
+    pub fn read(console: &mut Console) -> io::Result<List<T>> {
+        let mut word = console.word()?;
+        let length = usize::from(word.number());
+        let mut room = Vec::with_capacity(console.alloc, NODES)?;
+        for _ in 0..NODES {
+            if word.end == Some(b' ') {
+                word = console.word()?;
+            }
+            room.push(T::from(word.number()))?;
+        }
+        Ok(List { room, length })
     }
-    &mut list[..count]
+
+    pub fn lent(&mut self) -> &mut [T] {
+        let length = self.length.min(self.room.len());
+        &mut self.room[..length]
+    }
 }
 
-pub fn integers<'a>(list: &'a mut [i64]) -> &'a mut [i64] {
-    let mut word = words::read_word();
-    let count = within(word.bits as usize, list.len());
-    let mut k = 0;
-    while k < list.len() {
-        word = words::next(word);
-        list[k] = words::signed(word.bits);
-        k += 1;
-    }
-    &mut list[..count]
+// The buffers of a grid.
+#[derive(Drop)]
+pub struct Grid {
+    pub mass: List<u64>,
+    pub x: List<i64>,
+    pub y: List<i64>,
 }
 
-pub fn octets<'a>(list: &'a mut [u8]) -> &'a mut [u8] {
-    let mut word = words::read_word();
-    let count = within(word.bits as usize, list.len());
-    let mut k = 0;
-    while k < list.len() {
-        word = words::next(word);
-        list[k] = (word.bits % 256) as u8;
-        k += 1;
+impl Grid {
+    pub fn read(console: &mut Console) -> io::Result<Grid> {
+        Ok(Grid {
+            mass: List::read(console)?,
+            x: List::read(console)?,
+            y: List::read(console)?,
+        })
     }
-    &mut list[..count]
+
+    // Prints the buffers, whole.
+    pub fn print(&self, console: &mut Console) -> io::Result<()> {
+        console.values('m', &self.mass.room)?;
+        console.values('x', &self.x.room)?;
+        console.values('y', &self.y.room)
+    }
 }

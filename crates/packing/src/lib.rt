@@ -32,9 +32,7 @@ pub fn pack_set(array: &[i16], records: &mut [u8])
     ensures { Packs array.now records.old records.new }
 {
     let count = array.len() / NUMBERS;
-    let mut k = 0;
-    while k < count {
+    for k in 0..count {
         pack_particle(array, k, records);
-        k += 1;
     }
 }

@@ -1,13 +1,9 @@
 -- Reading and writing a particle record: the answers of document 01's "Read a record" and "Write a record", and the buffer that a write leaves.
 -- Assumes nothing.
 use Rattle.std.specs.Prelude.{ℕ, ◌≤◌, Bool, not, ◌&&◌, ◌||◌, List, map, eqb, ℤ, pos, neg_ℤ, nat_abs, length}
-use Rattle.refusal.specs.Refused.{Answer, gives, refused_by, refuse_if, kept_unless}
+use Rattle.refusal.specs.Refused.{Answer, gives, refuse_if, kept_unless}
 use Rattle.limits.specs.Limits.{least_mass, most_mass, most_velocity, most_affine, most_position, isℤ, valid_mass, valid_velocity, valid_affine, valid_position}
 use Rattle.particle.specs.declared.Particle.{Particle}
-use Rattle.particle.specs.declared.Read.{Read}
-use Rattle.particle.specs.declared.Read.TheVariants as read
-use Rattle.particle.specs.declared.Written.{Written}
-use Rattle.particle.specs.declared.Written.TheVariants as write
 use Rattle.particle.specs.Layout.{Name, identifier, mass, x, y, vx, vy, Bxx, Bxy, Byx, Byy, marks, record_length, layout, held, packed}
 
 -- the particle that a record of the right length holds
@@ -77,10 +73,6 @@ unfoldable pub read_answer : ℕ → List ℕ → Answer Particle
 read_answer index bytes =
     refuse_if (not (eqb (length bytes) record_length)) 1 0 (read_particle index (particle_of bytes))
 
-abbrev pub told_read : Read → Answer Particle
-told_read (read.Found p) = gives p
-told_read (read.Refused e) = refused_by e
-
 -- ---- "Write a record"
 
 abbrev pub valid_velocities : Particle → Bool
@@ -121,7 +113,3 @@ write_answer p bytes = refuse_if (not (eqb (length bytes) record_length)) 1 0 (w
 -- the buffer afterwards
 unfoldable pub written : Particle → List ℕ → List ℕ
 written p bytes = kept_unless (write_answer p bytes) (record_of p) bytes
-
-abbrev pub told_written : Written → Answer Unit
-told_written write.Done = gives tt
-told_written (write.Refused e) = refused_by e

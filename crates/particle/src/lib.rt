@@ -1,7 +1,5 @@
-// A particle record: its fields, and the answers of reading and writing one. What they do stands in specs/, what follows from it in proofs/.
+// A particle record: its fields. What reading and writing one do stands in specs/, what follows from it in proofs/.
 #![tactic(auto)]
-
-use refusal::Refusal;
 
 // The length of a particle record in bytes.
 pub const RECORD_LENGTH: usize = 15;
@@ -22,16 +20,4 @@ pub struct Particle {
     pub byx: i16,
     pub byy: i16,
     pub marks: u8,
-}
-
-#[derive(Drop)]
-pub enum Read {
-    Found(Particle),
-    Refused(Refusal),
-}
-
-#[derive(Drop)]
-pub enum Written {
-    Done,
-    Refused(Refusal),
 }

@@ -1,6 +1,6 @@
 -- A loop over the records of a set, turn by turn, and the check as such a loop.
 --     part-is                the part that the reader is handed
---     found, not-found       one record, by the record reader's answer
+--     found, not_found       one record, by the record reader's answer
 --     Carried                what a loop carries along
 --     folded                 the same after some particles
 --     rest                   what is left from here on
@@ -17,20 +17,17 @@ use native.Mathlib.Numerals.{add-one}
 use lib.Dec.{lit≤}
 use native.Mathlib.Omega.{arith}
 use lib.ListN.{length, take, drop}
-use Rattle.refusal.specs.Refused.{Answer, gives, refused, refused_by, and_then}
+use Rattle.std.specs.Prelude.{Result, Ok, Err}
+use Rattle.refusal.specs.Refused.{Answer, gives, refused, refused_by, told, and_then}
 use Rattle.refusal.specs.declared.Refusal.{Refusal}
 use Rattle.refusal.proofs.Answers.{same-result, not-refused, not-result, same-refusal, went_on}
 use Rattle.limits.specs.Limits.{most_total_mass}
 use Rattle.particle.specs.declared.Particle.{Particle}
-use Rattle.particle.specs.declared.Read.{Read}
-use Rattle.particle.specs.declared.Read.TheVariants as read
 use Rattle.particle.specs.Layout.{record_length}
-use Rattle.particle.specs.Record.{read_answer, told_read}
+use Rattle.particle.specs.Record.{read_answer}
 use Rattle.particles.specs.declared.Entry.{Entry}
-use Rattle.particles.specs.declared.Entered.{Entered}
-use Rattle.particles.specs.declared.Entered.TheVariants as entered
 use Rattle.particles.specs.Set.{record_at, checked_particle, set_from, set_of}
-use Rattle.particles.specs.Walk.{followed, told_entered, check_particle, check_record, counted}
+use Rattle.particles.specs.Walk.{followed, check_particle, check_record, counted}
 use Rattle.particles.proofs.Checks.{checked-facts, counted as all-counted}
 
 -- the part that the reader is handed is the record
@@ -40,15 +37,15 @@ part-is at bytes = ap (λ n. take n (drop at bytes)) room
     room : at + record_length - at ≡ record_length
     room = omega arith
 
-module _ {S : Type 0} (start k : ℕ) (bytes : List ℕ) (next : Particle → Answer S) (r : Read) (answer : told_read r ≡ read_answer k (take (start + record_length * k + record_length - (start + record_length * k)) (drop (start + record_length * k) bytes))) where
-  is-record : told_read r ≡ read_answer k (record_at start bytes k)
+module _ {S : Type 0} (start k : ℕ) (bytes : List ℕ) (next : Particle → Answer S) (r : Result Particle Refusal) (answer : told r ≡ read_answer k (take (start + record_length * k + record_length - (start + record_length * k)) (drop (start + record_length * k) bytes))) where
+  is-record : told r ≡ read_answer k (record_at start bytes k)
   is-record = answer ∙ ap (read_answer k) (part-is (start + record_length * k) bytes)
 
-  pub found : {q : Particle} {a : Answer S} → r ≡ read.Found q → a ≡ next q → a ≡ and_then (read_answer k (record_at start bytes k)) next
-  found e h = h ∙ ap (λ b. and_then b next) (ap told_read (sym e) ∙ is-record)
+  pub found : {q : Particle} {a : Answer S} → r ≡ Ok q → a ≡ next q → a ≡ and_then (read_answer k (record_at start bytes k)) next
+  found e h = h ∙ ap (λ b. and_then b next) (ap told (sym e) ∙ is-record)
 
-  pub not_found : (e : Refusal) → r ≡ read.Refused e → refused_by e ≡ and_then (read_answer k (record_at start bytes k)) next
-  not_found e h = ap (λ b. and_then b next) (ap told_read (sym h) ∙ is-record)
+  pub not_found : (e : Refusal) → r ≡ Err e → refused_by e ≡ and_then (read_answer k (record_at start bytes k)) next
+  not_found e h = ap (λ b. and_then b next) (ap told (sym h) ∙ is-record)
 
 -- ---- what is left of a loop over the records
 
@@ -205,17 +202,16 @@ module _ {nx ny start : ℕ} {bytes : List ℕ} {count : ℕ} where
   checking-start =
       record { light = lit≤ tt; left = left-start (checking count) nx ny start bytes count (counted nx ny start bytes count) start-of-check (checks-all nx ny start bytes count) }
 
-  pub checking-next : {e : Entry} {k : ℕ} (r : Entered) (t : Entry) → Checking nx ny start bytes count e k → k < count → r ≡ entered.Passed t → told_entered r ≡ check_record nx ny start bytes k e → Checking nx ny start bytes count t (k + 1)
-  checking-next {e} {k} r t w h is answer =
-      let told = sym answer ∙ ap told_entered is in
+  pub checking-next : {e : Entry} {k : ℕ} (t : Entry) → Checking nx ny start bytes count e k → k < count → gives t ≡ check_record nx ny start bytes k e → Checking nx ny start bytes count t (k + 1)
+  checking-next {e} {k} t w h answer =
       record {
-        light = light-after nx ny start bytes k e told;
-        left = left-next (checking count) nx ny start bytes count (counted nx ny start bytes count) e k t w.left h told;
+        light = light-after nx ny start bytes k e (sym answer);
+        left = left-next (checking count) nx ny start bytes count (counted nx ny start bytes count) e k t w.left h (sym answer);
       }
 
-  pub checking-refused : {e : Entry} {k : ℕ} (r : Entered) (f : Refusal) → Checking nx ny start bytes count e k → k < count → r ≡ entered.Refused f → told_entered r ≡ check_record nx ny start bytes k e → refused_by f ≡ counted nx ny start bytes count
-  checking-refused {e} {k} r f w h is answer =
-      left-refused (checking count) nx ny start bytes count (counted nx ny start bytes count) e k w.left h (sym answer ∙ ap told_entered is)
+  pub checking-refused : {e : Entry} {k : ℕ} (f : Refusal) → Checking nx ny start bytes count e k → k < count → refused_by f ≡ check_record nx ny start bytes k e → refused_by f ≡ counted nx ny start bytes count
+  checking-refused {e} {k} f w h answer =
+      left-refused (checking count) nx ny start bytes count (counted nx ny start bytes count) e k w.left h (sym answer)
 
   pub checking-end : {e : Entry} {k : ℕ} → Checking nx ny start bytes count e k → count ≤ k → gives count ≡ counted nx ny start bytes count
   checking-end {e} {k} w h = left_end (checking count) nx ny start bytes count (counted nx ny start bytes count) e k w.left h

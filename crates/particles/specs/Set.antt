@@ -9,8 +9,6 @@ use Rattle.spline.specs.Spline.{on_axis}
 use Rattle.particle.specs.declared.Particle.{Particle}
 use Rattle.particle.specs.Layout.{record_length}
 use Rattle.particle.specs.Record.{read_answer, particle_of, record_of}
-use Rattle.particles.specs.declared.Checked.{Checked}
-use Rattle.particles.specs.declared.Checked.TheVariants as checked
 
 -- ---- the set: for each record 4, 5, 6, 7, 8, 9
 
@@ -88,7 +86,3 @@ set_answer caller nx ny bytes =
 -- "Check a set": the result is the number of records
 abbrev pub check_answer : Caller → ℕ → ℕ → List ℕ → Answer ℕ
 check_answer caller nx ny bytes = and_then (set_answer caller nx ny bytes) (λ ps. gives (length ps))
-
-abbrev pub told_checked : Checked → Answer ℕ
-told_checked (checked.Records n) = gives n
-told_checked (checked.Refused e) = refused_by e

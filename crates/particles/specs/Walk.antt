@@ -5,17 +5,11 @@ use Rattle.refusal.specs.Refused.{Answer, gives, refused_by, and_then}
 use Rattle.particle.specs.declared.Particle.{Particle}
 use Rattle.particle.specs.Record.{read_answer}
 use Rattle.particles.specs.declared.Entry.{Entry}
-use Rattle.particles.specs.declared.Entered.{Entered}
-use Rattle.particles.specs.declared.Entered.TheVariants as entered
 use Rattle.particles.specs.Set.{checked_particle, record_at, set_of}
 
 -- how far the check is after one more particle
 abbrev pub followed : Entry → Particle → Entry
 followed e p = record { least = suc p.identifier; mass = e.mass + p.mass }
-
-abbrev pub told_entered : Entered → Answer Entry
-told_entered (entered.Passed e) = gives e
-told_entered (entered.Refused f) = refused_by f
 
 abbrev pub check_particle : ℕ → ℕ → ℕ → Entry → Particle → Answer Entry
 check_particle nx ny k e p = and_then (checked_particle nx ny k e.least e.mass p) (λ q. gives (followed e q))

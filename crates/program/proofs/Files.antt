@@ -15,11 +15,12 @@ use mathlib.Core.List.{List, ◌++◌, append-nil}
 use lib.IntN.{ℤ, pos}
 use lib.ListN.{length, take, drop, length-append, length-drop, length-replicate, drop_of_length-le}
 use lib.Seq.{length-take-le, take_all, drop_at}
+use Rattle.std.specs.Prelude.{Result}
 use Rattle.refusal.specs.Refused.{Answer, either}
 use Rattle.limits.specs.declared.Caller.TheVariants.{Bench}
 use Rattle.apic.specs.Limits.{SizeLimits}
 use Rattle.particles.proofs.Checks.{size-limits, entered}
-use Rattle.simulation.specs.declared.Ran.{Ran}
+use Rattle.simulation.specs.declared.Stop.{Stop}
 use Rattle.apic.specs.Step.{Grids, grids_of}
 use Rattle.simulation.specs.Step.{Sees}
 use Rattle.simulation.specs.Run.{told_ran}
@@ -131,7 +132,7 @@ module _ {h : Header} {bytes mass : List ℕ} {x y : List ℤ} {text : List ℕ}
         y = length-take-le (node_count h) y (le_trans most a.grids.y-velocities) ∙ sym (length-replicate (node_count h) (pos 0));
       }
 
-  module _ (r : Ran) {records mass' : List ℕ} {x' y' : List ℤ} (lends : Sees (run_first h (lent bytes) (grids_of mass x y)) (told_ran r) records mass' x' y') where
+  module _ (r : Result ℕ Stop) {records mass' : List ℕ} {x' y' : List ℤ} (lends : Sees (run_first h (lent bytes) (grids_of mass x y)) (told_ran r) records mass' x' y') where
     ran : Sees (run_first h (records_in bytes) (grids_of mass x y)) (told_ran r) records mass' x' y'
     ran = rw (lent-all bytes) at lends
 

@@ -4,7 +4,7 @@
 // The nodes of the largest grid.
 pub const MOST_NODES: usize = file_run::MOST_NODES;
 
-// The length of the text, and whether the file was refused.
+// The length of the text, and whether the file was refused. An enum of the two would have the same length in both cases.
 #[derive(Drop)]
 pub struct Printed {
     pub length: usize,

@@ -2,10 +2,11 @@
 #![tactic(auto)]
 
 ghost use Rattle.std.specs.Prelude.{◌≡◌, length};
+ghost use Rattle.refusal.specs.Refused.{told};
 ghost use Rattle.particle.specs.Layout.{record_length};
-ghost use Rattle.particle.specs.Record.{particle_of, numbers, read_particle, read_answer, told_read};
+ghost use Rattle.particle.specs.Record.{particle_of, numbers, read_particle, read_answer};
 
-use particle::{NUMBERS, Particle, RECORD_LENGTH, Read};
+use particle::{NUMBERS, Particle, RECORD_LENGTH};
 use refusal::Refusal;
 
 // The numbers that a record's fields can hold beside the valid ones.
@@ -38,59 +39,59 @@ pub fn unpack(bytes: &[u8]) -> Particle
     }
 }
 
-// The numbers of a particle, in the order of its record's fields.
+// The numbers of a particle, in the order of its record's fields: by name, since `From` would not say which order.
 pub fn numbers_of(p: Particle) -> [i64; NUMBERS]
     ensures { result ≡ numbers p }
 {
     [
-        p.identifier as i64,
-        p.mass as i64,
-        p.x as i64,
-        p.y as i64,
-        p.vx as i64,
-        p.vy as i64,
-        p.bxx as i64,
-        p.bxy as i64,
-        p.byx as i64,
-        p.byy as i64,
-        p.marks as i64,
+        i64::from(p.identifier),
+        i64::from(p.mass),
+        i64::from(p.x),
+        i64::from(p.y),
+        i64::from(p.vx),
+        i64::from(p.vy),
+        i64::from(p.bxx),
+        i64::from(p.bxy),
+        i64::from(p.byx),
+        i64::from(p.byy),
+        i64::from(p.marks),
     ]
 }
 
 // The answer for a particle that was read from the record with this index. `read_indexed` calls it.
-fn check_read(p: Particle, index: usize) -> Read
-    ensures { told_read result ≡ read_particle index p }
+fn check_read(p: Particle, index: usize) -> Result<Particle, Refusal>
+    ensures { told result ≡ read_particle index p }
 {
     if p.mass == NO_MASS {
-        return Read::Refused(Refusal::Mass(index));
+        return Err(Refusal::Mass(index));
     }
     if limits::one_is(p.vx, p.vy, NO_VELOCITY) {
-        return Read::Refused(Refusal::Velocity(index));
+        return Err(Refusal::Velocity(index));
     }
     // B by its columns: what is compiled is shorter than by its rows.
     if limits::one_is(p.bxx, p.byx, NO_AFFINE) {
-        return Read::Refused(Refusal::Affine(index));
+        return Err(Refusal::Affine(index));
     }
     if limits::one_is(p.bxy, p.byy, NO_AFFINE) {
-        return Read::Refused(Refusal::Affine(index));
+        return Err(Refusal::Affine(index));
     }
-    Read::Found(p)
+    Ok(p)
 }
 
 // The record reader: any slice, as the record with this index of its set. The walks over a set hand it the part that starts at
 // the record's place.
-pub fn read_indexed(bytes: &[u8], index: usize) -> Read
-    ensures { told_read result ≡ read_answer index bytes.now }
+pub fn read_indexed(bytes: &[u8], index: usize) -> Result<Particle, Refusal>
+    ensures { told result ≡ read_answer index bytes.now }
 {
     if bytes.len() != RECORD_LENGTH {
-        return Read::Refused(Refusal::Length);
+        return Err(Refusal::Length);
     }
     check_read(unpack(bytes), index)
 }
 
 // Read a record: any slice.
-pub fn read_record(bytes: &[u8]) -> Read
-    ensures { told_read result ≡ read_answer 0 bytes.now }
+pub fn read_record(bytes: &[u8]) -> Result<Particle, Refusal>
+    ensures { told result ≡ read_answer 0 bytes.now }
 {
     read_indexed(bytes, 0)
 }

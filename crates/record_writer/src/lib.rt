@@ -2,39 +2,39 @@
 #![tactic(auto)]
 
 ghost use Rattle.std.specs.Prelude.{◌≡◌, [], ◌∷◌, length};
-ghost use Rattle.refusal.specs.Refused.{gives};
+ghost use Rattle.refusal.specs.Refused.{gives, told};
 ghost use Rattle.bits.specs.Internal.{Below};
 ghost use Rattle.bits.specs.Layout.{widths, filled};
 ghost use Rattle.particle.specs.Layout.{layout, record_length};
-ghost use Rattle.particle.specs.Record.{record_of, write_particle, write_answer, written, told_written};
+ghost use Rattle.particle.specs.Record.{record_of, write_particle, write_answer, written};
 
-use particle::{Particle, RECORD_LENGTH, Written};
+use particle::{Particle, RECORD_LENGTH};
 use refusal::Refusal;
 
 // The answer for a particle that is to be written.
-fn check_write(p: Particle) -> Written
-    ensures { told_written result ≡ write_particle p }
+fn check_write(p: Particle) -> Result<(), Refusal>
+    ensures { told result ≡ write_particle p }
 {
     if !limits::mass_is_valid(p.mass) {
-        return Written::Refused(Refusal::Mass(0));
+        return Err(Refusal::Mass(0));
     }
     if !limits::both_between(p.vx, p.vy, limits::LEAST_VELOCITY, limits::MOST_VELOCITY) {
-        return Written::Refused(Refusal::Velocity(0));
+        return Err(Refusal::Velocity(0));
     }
     if !limits::both_between(p.bxx, p.bxy, limits::LEAST_AFFINE, limits::MOST_AFFINE) {
-        return Written::Refused(Refusal::Affine(0));
+        return Err(Refusal::Affine(0));
     }
     if !limits::both_between(p.byx, p.byy, limits::LEAST_AFFINE, limits::MOST_AFFINE) {
-        return Written::Refused(Refusal::Affine(0));
+        return Err(Refusal::Affine(0));
     }
     if !limits::position_is_valid(p.x, p.y) {
-        return Written::Refused(Refusal::Position(0));
+        return Err(Refusal::Position(0));
     }
-    Written::Done
+    Ok(())
 }
 
 // Writes the record with these parts in its fields, as two words: the second starts with the first one's last byte. `pack`
-// calls it with parts that the fields hold.
+// calls it with parts that the fields hold. Casts and no `u64::from`, with which the proof did not close.
 fn put(
     identifier: u16,
     mass: u16,
@@ -98,19 +98,14 @@ pub fn pack(p: Particle, bytes: &mut [u8])
 
 // Write a record: any numbers, any buffer. A refused call leaves the buffer as it was.
 #[tactic(auto, unfolding(particle::specs::Record::write_answer, particle::specs::Record::written), using(std::proofs::lemmas::Bool::Decides::nat_tests))]
-pub fn write_record(p: Particle, bytes: &mut [u8]) -> Written
-    ensures answer { told_written result ≡ write_answer p bytes.old }
+pub fn write_record(p: Particle, bytes: &mut [u8]) -> Result<(), Refusal>
+    ensures answer { told result ≡ write_answer p bytes.old }
     ensures buffer { bytes.new ≡ written p bytes.old }
 {
     if bytes.len() != RECORD_LENGTH {
-        return Written::Refused(Refusal::Length);
+        return Err(Refusal::Length);
     }
-    let answer = check_write(p);
-    match answer {
-        Written::Refused(refusal) => Written::Refused(refusal),
-        Written::Done => {
-            pack(p, bytes);
-            Written::Done
-        }
-    }
+    check_write(p)?;
+    pack(p, bytes);
+    Ok(())
 }

@@ -1,7 +1,7 @@
--- An answer of documents 01 and 02: a result, or a number with a place. Each operation's enum is read as one, and its promise is an equation of these.
+-- An answer of documents 01 and 02: a result, or a number with a place. Each operation's `Result` is read as one, and its promise is an equation of these.
 -- The place is the record, or for 11, 12, 20 and 21 the node, counted from 0, or 0 where there is none.
 -- Assumes nothing.
-use Rattle.std.specs.Prelude.{◌≡◌, ℕ, zero, suc, Bool, true, false}
+use Rattle.std.specs.Prelude.{◌≡◌, ℕ, zero, suc, Bool, true, false, Result, Ok, Err}
 use Rattle.refusal.specs.declared.Refusal.{Refusal}
 use Rattle.refusal.specs.declared.Refusal.TheVariants.{Length, GridSize, Count, Mass, Velocity, Affine, Position, Identifier, TotalMass, Gravity, NodeMass, NodeVelocity, NewVelocity, NewAffine, NewPosition, SpareBits, Steps, Edge, Drag, PresentNode, AddedMass, Name, NotHeld, FullStore}
 
@@ -64,6 +64,11 @@ place FullStore = 0
 -- a refusal as these documents tell it
 abbrev pub refused_by : {A : Type 0} → Refusal → Answer A
 refused_by e = refused (number e) (place e)
+
+-- what a call's result tells
+abbrev pub told : {A : Type 0} → Result A Refusal → Answer A
+told (Ok a) = gives a
+told (Err e) = refused_by e
 
 -- one check of a list: refused with this number and place where it fails, and else as the rest of the list says
 abbrev pub refuse_if : {A : Type 0} → Bool → ℕ → ℕ → Answer A → Answer A

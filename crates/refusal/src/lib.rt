@@ -56,66 +56,68 @@ pub enum Refusal {
     FullStore,
 }
 
-// The number of a refusal in these lists.
-pub fn number_of(refusal: Refusal) -> u8
-    ensures { result ≡ number refusal }
-{
-    match refusal {
-        Refusal::Length => 1,
-        Refusal::GridSize => 2,
-        Refusal::Count => 3,
-        Refusal::Mass(_) => 4,
-        Refusal::Velocity(_) => 5,
-        Refusal::Affine(_) => 6,
-        Refusal::Position(_) => 7,
-        Refusal::Identifier(_) => 8,
-        Refusal::TotalMass(_) => 9,
-        Refusal::Gravity => 10,
-        Refusal::NodeMass(_) => 11,
-        Refusal::NodeVelocity(_) => 12,
-        Refusal::NewVelocity(_) => 13,
-        Refusal::NewAffine(_) => 14,
-        Refusal::NewPosition(_) => 15,
-        Refusal::SpareBits => 16,
-        Refusal::Steps => 17,
-        Refusal::Edge => 18,
-        Refusal::Drag => 19,
-        Refusal::PresentNode(_) => 20,
-        Refusal::AddedMass(_) => 21,
-        Refusal::Name => 22,
-        Refusal::NotHeld => 23,
-        Refusal::FullStore => 24,
+impl Refusal {
+    // The number of a refusal in these lists.
+    pub fn number(self) -> u8
+        ensures { result ≡ number self }
+    {
+        match self {
+            Refusal::Length => 1,
+            Refusal::GridSize => 2,
+            Refusal::Count => 3,
+            Refusal::Mass(_) => 4,
+            Refusal::Velocity(_) => 5,
+            Refusal::Affine(_) => 6,
+            Refusal::Position(_) => 7,
+            Refusal::Identifier(_) => 8,
+            Refusal::TotalMass(_) => 9,
+            Refusal::Gravity => 10,
+            Refusal::NodeMass(_) => 11,
+            Refusal::NodeVelocity(_) => 12,
+            Refusal::NewVelocity(_) => 13,
+            Refusal::NewAffine(_) => 14,
+            Refusal::NewPosition(_) => 15,
+            Refusal::SpareBits => 16,
+            Refusal::Steps => 17,
+            Refusal::Edge => 18,
+            Refusal::Drag => 19,
+            Refusal::PresentNode(_) => 20,
+            Refusal::AddedMass(_) => 21,
+            Refusal::Name => 22,
+            Refusal::NotHeld => 23,
+            Refusal::FullStore => 24,
+        }
     }
-}
 
-// The record or node of a refusal, or 0 where there is none.
-pub fn place_of(refusal: Refusal) -> usize
-    ensures { result ≡ place refusal }
-{
-    match refusal {
-        Refusal::Length => 0,
-        Refusal::GridSize => 0,
-        Refusal::Count => 0,
-        Refusal::Mass(record) => record,
-        Refusal::Velocity(record) => record,
-        Refusal::Affine(record) => record,
-        Refusal::Position(record) => record,
-        Refusal::Identifier(record) => record,
-        Refusal::TotalMass(record) => record,
-        Refusal::Gravity => 0,
-        Refusal::NodeMass(node) => node,
-        Refusal::NodeVelocity(node) => node,
-        Refusal::NewVelocity(record) => record,
-        Refusal::NewAffine(record) => record,
-        Refusal::NewPosition(record) => record,
-        Refusal::SpareBits => 0,
-        Refusal::Steps => 0,
-        Refusal::Edge => 0,
-        Refusal::Drag => 0,
-        Refusal::PresentNode(node) => node,
-        Refusal::AddedMass(node) => node,
-        Refusal::Name => 0,
-        Refusal::NotHeld => 0,
-        Refusal::FullStore => 0,
+    // The record or node of a refusal, or 0 where there is none.
+    pub fn place(self) -> usize
+        ensures { result ≡ place self }
+    {
+        match self {
+            Refusal::Length => 0,
+            Refusal::GridSize => 0,
+            Refusal::Count => 0,
+            Refusal::Mass(record) => record,
+            Refusal::Velocity(record) => record,
+            Refusal::Affine(record) => record,
+            Refusal::Position(record) => record,
+            Refusal::Identifier(record) => record,
+            Refusal::TotalMass(record) => record,
+            Refusal::Gravity => 0,
+            Refusal::NodeMass(node) => node,
+            Refusal::NodeVelocity(node) => node,
+            Refusal::NewVelocity(record) => record,
+            Refusal::NewAffine(record) => record,
+            Refusal::NewPosition(record) => record,
+            Refusal::SpareBits => 0,
+            Refusal::Steps => 0,
+            Refusal::Edge => 0,
+            Refusal::Drag => 0,
+            Refusal::PresentNode(node) => node,
+            Refusal::AddedMass(node) => node,
+            Refusal::Name => 0,
+            Refusal::NotHeld => 0,
+            Refusal::FullStore => 0,
+        }
     }
 }

@@ -1,41 +1,60 @@
--- The texts of the lines as the code puts them together, piece by piece: a line is its pieces, one behind the other.
+-- The lines as forms with numbers in their gaps, as the code puts them.
 -- Assumes nothing.
-use Prim.Native.Nat.{ℕ}
-use mathlib.Core.Path.{◌≡◌, refl}
-use mathlib.Core.List.{List, ◌++◌, map, append_assoc}
+use Prim.Native.Nat.{ℕ, ◌^◌, ◌<◌}
+use mathlib.Core.Path.{◌≡◌, refl, sym, ap, ap₂, ◌∙◌}
+use mathlib.Core.List.{List, [], ◌∷◌, map}
+use lib.IntN.{ℤ, pos}
+use lib.ListN.{length, get_or}
+use lib.Signed.{mag}
+use Rattle.std.specs.Fmt as std
 use Rattle.particle.specs.declared.Particle.{Particle}
 use Rattle.particle.specs.Record.{numbers}
 use Rattle.totals.specs.declared.Totals.{Totals}
 use Rattle.totals.specs.Totals.{sums}
-use Rattle.text.specs.Decimal.{bytes_of, space, line_feed, signed}
-use Rattle.text.specs.Internal.{natural_text, filled_in}
+use Rattle.text.specs.Decimal.{bytes_of, signed}
+use Rattle.text.specs.Internal.{filled_in}
+use Rattle.text.proofs.Texts.{decimal-is, all_signed}
 use Rattle.report.specs.Lines.{line, refused_line, done_line, totals_line, particle_line}
 
-pub refused-text : (n k : ℕ) → refused_line n k ≡ (bytes_of "refused " ++ natural_text n space) ++ (bytes_of "at " ++ natural_text k line_feed)
-unfolding refused_line
-refused-text n k = simp append_assoc
+-- ---- natural numbers
 
-pub done-text : (c n k : ℕ) → done_line c n k ≡ (bytes_of "done " ++ natural_text c space) ++ ((bytes_of "refusal " ++ natural_text n space) ++ (bytes_of "at " ++ natural_text k line_feed))
-unfolding done_line
-done-text c n k = simp append_assoc
+abbrev pub refused_form : List ℕ
+refused_form = bytes_of "refused ? at ?\n"
 
--- ---- texts in which a question mark stands for a number
+pub refused-text : (n k : ℕ) → n < 2 ^ 64 → k < 2 ^ 64 → filled_in refused_form (map std.decimal (n ∷ k ∷ [])) ≡ refused_line n k
+unfolding refused_line filled_in
+refused-text n k a b = ap (filled_in refused_form) (ap₂ (λ x y. x ∷ y ∷ []) (decimal-is n a) (decimal-is k b))
+
+abbrev pub done_form : List ℕ
+done_form = bytes_of "done ? refusal ? at ?\n"
+
+pub done-text : (c n k : ℕ) → c < 2 ^ 64 → n < 2 ^ 64 → k < 2 ^ 64 → filled_in done_form (map std.decimal (c ∷ n ∷ k ∷ [])) ≡ done_line c n k
+unfolding done_line filled_in
+done-text c n k a b d =
+    ap (filled_in done_form)
+    (ap₂ (λ x l. x ∷ l) (decimal-is c a) (ap₂ (λ x y. x ∷ y ∷ []) (decimal-is n b) (decimal-is k d)))
+
+-- ---- integers
+
+abbrev Small : List ℤ → Type 0
+Small zs = (k : ℕ) → k < length zs → mag (get_or zs k (pos 0)) < 2 ^ 63
 
 -- the sums by their names
-abbrev pub sums_text : List ℕ
-sums_text = bytes_of "mass ? px ? py ? spin ? motion ? marks ?\n"
+abbrev pub totals_form : List ℕ
+totals_form = bytes_of "mass ? px ? py ? spin ? motion ? marks ?\n"
 
-pub totals-text : (t : Totals) → totals_line t ≡ filled_in sums_text (sums t)
-unfolding totals_line
-totals-text t = refl
+pub totals-text : (t : Totals) {zs : List ℤ} → Small zs → zs ≡ sums t → filled_in totals_form (map std.signed_decimal zs) ≡ totals_line t
+unfolding totals_line filled_in
+totals-text t {zs} h e = ap (filled_in totals_form) (all_signed zs h ∙ ap (map signed) e)
 
 -- a record's line is that of the particle's numbers
 pub particle-numbers : (p : Particle) → particle_line p ≡ line (map signed (numbers p))
 unfolding particle_line signed
 particle-numbers p = refl
 
-abbrev pub numbers_text : List ℕ
-numbers_text = bytes_of "? ? ? ? ? ? ? ? ? ? ?\n"
+abbrev pub particle_form : List ℕ
+particle_form = bytes_of "? ? ? ? ? ? ? ? ? ? ?\n"
 
-pub particle-text : (p : Particle) → particle_line p ≡ filled_in numbers_text (numbers p)
-particle-text p = particle-numbers p
+pub particle-text : (p : Particle) {zs : List ℤ} → Small zs → zs ≡ numbers p → filled_in particle_form (map std.signed_decimal zs) ≡ particle_line p
+unfolding filled_in
+particle-text p {zs} h e = ap (filled_in particle_form) (all_signed zs h ∙ ap (map signed) e) ∙ sym (particle-numbers p)

@@ -1,14 +1,12 @@
 -- The whole text that the program prints, for each outcome, and what the function that fills the buffer answers.
 -- Assumes nothing.
 use Rattle.std.specs.Prelude.{ℕ, ◌+◌, ◌*◌, not, List, ◌++◌, ltb, length, drop}
-use Rattle.refusal.specs.Refused.{Answer, gives, refused, refused_by, refuse_if, number, place}
+use Rattle.refusal.specs.Refused.{Answer, gives, refused, refuse_if, number, place}
 use Rattle.limits.specs.Limits.{most_records}
 use Rattle.totals.specs.declared.Totals.{Totals}
 use Rattle.particles.specs.Set.{particles_in, valid_length}
 use Rattle.report.specs.declared.Outcome.{Outcome}
 use Rattle.report.specs.declared.Outcome.TheVariants.{Refused, Done, Stopped}
-use Rattle.report.specs.declared.Reported.{Reported}
-use Rattle.report.specs.declared.Reported.TheVariants as reported
 use Rattle.report.specs.Lines.{refused_line, done_line, totals_line, particle_lines}
 
 -- completed steps, refusal and place; then the totals; then each record
@@ -44,7 +42,3 @@ filled_unless (refused n k) text out = out
 
 unfoldable pub filled : Outcome → List ℕ → List ℕ → List ℕ
 filled outcome records out = filled_unless (report_answer outcome records out) (text_of outcome records) out
-
-abbrev pub told_reported : Reported → Answer ℕ
-told_reported (reported.Length n) = gives n
-told_reported (reported.Refused e) = refused_by e

@@ -1,5 +1,4 @@
-// A report: what the program has to tell, and the answer of whoever puts it into a buffer. What is put there stands in specs/, what
-// follows from it in proofs/.
+// A report: what the program has to tell. What of it is put into a buffer stands in specs/, what follows from it in proofs/.
 #![tactic(auto)]
 
 use limits::MOST_RECORDS;
@@ -22,11 +21,4 @@ pub enum Outcome {
     Done(usize, Totals),
     // a refusal stopped the run: the number of completed steps, the refusal, and the totals afterwards
     Stopped(usize, Refusal, Totals),
-}
-
-#[derive(Drop)]
-pub enum Reported {
-    // the text's length
-    Length(usize),
-    Refused(Refusal),
 }

@@ -1,50 +1,45 @@
-// The lines of a report, each appended to a buffer with room for it.
+// The lines of a report, each put behind a text with room for it.
 #![tactic(auto)]
 
 ghost use Rattle.text.specs.Internal.{Room, Put};
 ghost use Rattle.report.specs.Lines.{refused_line, done_line, totals_line, particle_line};
 
 use particle::Particle;
+use text::Text;
 use totals::Totals;
 
 // The line of a refused file. Crate report_text calls it.
-pub fn put_refused(out: &mut [u8], at: usize, refusal: u64, place: u64) -> usize
-    requires { Room out.old at (refused_line refusal place) }
-    ensures { Put out.old at (refused_line refusal place) out.new result }
+pub fn put_refused(text: &mut Text, refusal: u8, place: usize)
+    requires { Room text.old (refused_line refusal place) }
+    ensures { Put text.old (refused_line refusal place) text.new }
 {
-    let last = phrases::put_named_natural(out, at, b"refused ", refusal, text::SPACE);
-    phrases::put_named_natural(out, last, b"at ", place, text::LINE_FEED)
+    let numbers = [usize::from(refusal), place];
+    phrases::put_filled(text, b"refused ? at ?\n", &numbers);
 }
 
 // The line of a run. Crate report_text calls it.
-pub fn put_done(out: &mut [u8], at: usize, completed: u64, refusal: u64, place: u64) -> usize
-    requires { Room out.old at (done_line completed refusal place) }
-    ensures { Put out.old at (done_line completed refusal place) out.new result }
+pub fn put_done(text: &mut Text, completed: usize, refusal: u8, place: usize)
+    requires { Room text.old (done_line completed refusal place) }
+    ensures { Put text.old (done_line completed refusal place) text.new }
 {
-    let first = phrases::put_named_natural(out, at, b"done ", completed, text::SPACE);
-    let second = phrases::put_named_natural(out, first, b"refusal ", refusal, text::SPACE);
-    phrases::put_named_natural(out, second, b"at ", place, text::LINE_FEED)
+    let numbers = [completed, usize::from(refusal), place];
+    phrases::put_filled(text, b"done ? refusal ? at ?\n", &numbers);
 }
 
 // The line of the totals: one more sum is one more name with its place. Crate report_text calls it.
-pub fn put_totals(out: &mut [u8], at: usize, t: Totals) -> usize
-    requires { Room out.old at (totals_line t) }
-    ensures { Put out.old at (totals_line t) out.new result }
+pub fn put_totals(text: &mut Text, t: Totals)
+    requires { Room text.old (totals_line t) }
+    ensures { Put text.old (totals_line t) text.new }
 {
     let sums = totals_share::sums_of(t);
-    phrases::put_filled(
-        out,
-        at,
-        b"mass ? px ? py ? spin ? motion ? marks ?\n",
-        &sums,
-    )
+    phrases::put_filled(text, b"mass ? px ? py ? spin ? motion ? marks ?\n", &sums);
 }
 
 // The line of a record. Crate report_text calls it.
-pub fn put_particle(out: &mut [u8], at: usize, p: Particle) -> usize
-    requires { Room out.old at (particle_line p) }
-    ensures { Put out.old at (particle_line p) out.new result }
+pub fn put_particle(text: &mut Text, p: Particle)
+    requires { Room text.old (particle_line p) }
+    ensures { Put text.old (particle_line p) text.new }
 {
     let numbers = record_reader::numbers_of(p);
-    phrases::put_filled(out, at, b"? ? ? ? ? ? ? ? ? ? ?\n", &numbers)
+    phrases::put_filled(text, b"? ? ? ? ? ? ? ? ? ? ?\n", &numbers);
 }

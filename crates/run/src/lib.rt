@@ -1,94 +1,49 @@
 // A step and a run of a particle set.
 #![tactic(auto)]
 
-ghost use Rattle.std.specs.Prelude.{◌*◌, ◌≤◌, length};
-ghost use Rattle.particle.specs.Layout.{record_length};
+ghost use Rattle.std.specs.Prelude.{◌*◌, ◌^◌, ◌≤◌, ◌<◌};
+ghost use Rattle.refusal.specs.Refused.{told};
 ghost use Rattle.apic.specs.Step.{grids_of};
-ghost use Rattle.simulation.specs.Step.{Sees, told_stepped, step_after};
+ghost use Rattle.particles.specs.Set.{record_count};
+ghost use Rattle.unpacked.specs.Unpacked.{per_particle};
+ghost use Rattle.simulation.specs.Step.{Sees, step_after};
 ghost use Rattle.simulation.specs.Run.{told_ran, run_after};
-ghost use Rattle.simulation.specs.Internal.{small, middle, RunReady, Runs};
+ghost use Rattle.simulation.specs.Internal.{RunReady, Runs};
 
 use entry::Buffers;
 use limits::Caller;
 use packing::SET_NUMBERS;
-use particle::RECORD_LENGTH;
-use particles::{Checked, SET_LENGTH};
+use refusal::Refusal;
 use settings::Settings;
-use simulation::{Ran, Stepped};
+use simulation::Stop;
 use unpacked::NUMBERS;
 
-// A small set has at most so many particles: its length in bytes, and how many numbers it has.
+// A small set has at most so many particles, and a middle one.
 const SMALL: usize = 64;
 
-const SMALL_LENGTH: usize = SMALL * RECORD_LENGTH;
+const MIDDLE: usize = 512;
 
 const SMALL_NUMBERS: usize = SMALL * NUMBERS;
 
-// A middle one: the same.
-const MIDDLE: usize = 512;
-
-const MIDDLE_LENGTH: usize = MIDDLE * RECORD_LENGTH;
-
 const MIDDLE_NUMBERS: usize = MIDDLE * NUMBERS;
 
-// Runs an accepted set with arrays of its own, for a small set. `run` calls it.
-fn run_small(
-    settings: Settings,
-    steps: usize,
-    records: &mut [u8],
-    mass: &mut [u64],
-    px: &mut [i64],
-    py: &mut [i64],
-) -> Ran
-    requires { RunReady settings records.old mass.old px.old py.old × (length records.old ≤ small * record_length) }
-    ensures { Runs settings steps records.old mass.old px.old py.old result records.new mass.new px.new py.new }
-{
-    let mut a = [0i16; SMALL_NUMBERS];
-    let mut b = [0i16; SMALL_NUMBERS];
-    run_set::run_set(settings, steps, records, mass, px, py, &mut a, &mut b)
-}
-
-// The same for a middle set. `run` calls it. The compiler does not make this function, and its arrays, a part of `run`, which
-// would need their stack for every call: the attribute asks for it, as does the call to itself, for which no middle set is long
-// enough.
+// Runs an accepted set with arrays of N numbers. `run` calls it. The attribute keeps the arrays out of `run`, which would need
+// their stack for every call.
 #[inline(never)]
-fn run_middle(
+fn run_sized<const N: usize>(
     settings: Settings,
     steps: usize,
     records: &mut [u8],
     mass: &mut [u64],
     px: &mut [i64],
     py: &mut [i64],
-) -> Ran
-    requires { RunReady settings records.old mass.old px.old py.old × (length records.old ≤ middle * record_length) }
+) -> Result<usize, Stop>
+    requires fits { N < 2 ^ 62 }
+    requires room { RunReady settings records.old mass.old px.old py.old × (per_particle * record_count records.old ≤ N) }
     ensures { Runs settings steps records.old mass.old px.old py.old result records.new mass.new px.new py.new }
 {
-    if MIDDLE_LENGTH < records.len() {
-        run_middle(settings, steps, records, mass, px, py);
-    }
-    let mut a = [0i16; MIDDLE_NUMBERS];
-    let mut b = [0i16; MIDDLE_NUMBERS];
-    run_set::run_set(settings, steps, records, mass, px, py, &mut a, &mut b)
-}
-
-// The same for any set, in the same way. `run` calls it.
-#[inline(never)]
-fn run_large(
-    settings: Settings,
-    steps: usize,
-    records: &mut [u8],
-    mass: &mut [u64],
-    px: &mut [i64],
-    py: &mut [i64],
-) -> Ran
-    requires { RunReady settings records.old mass.old px.old py.old }
-    ensures { Runs settings steps records.old mass.old px.old py.old result records.new mass.new px.new py.new }
-{
-    if SET_LENGTH < records.len() {
-        run_large(settings, steps, records, mass, px, py);
-    }
-    let mut a = [0i16; SET_NUMBERS];
-    let mut b = [0i16; SET_NUMBERS];
+    let mut a = [0i16; N];
+    let mut b = [0i16; N];
     run_set::run_set(settings, steps, records, mass, px, py, &mut a, &mut b)
 }
 
@@ -102,22 +57,19 @@ pub fn run(
     mass: &mut [u64],
     px: &mut [i64],
     py: &mut [i64],
-) -> Ran
+) -> Result<usize, Stop>
     ensures { Sees (run_after caller settings steps records.old (grids_of mass.old px.old py.old)) (told_ran result) records.new mass.new px.new py.new }
 {
     let buffers = Buffers::Three(mass.len(), px.len(), py.len());
-    match entry::check(caller, settings, buffers, steps, records) {
-        Checked::Refused(refusal) => return Ran::Stopped(0, refusal),
-        Checked::Records(_) => {}
-    }
+    let count = entry::check(caller, settings, buffers, steps, records)?;
     // An array is cleared at each call, so a set takes the smallest that has room.
-    if records.len() <= SMALL_LENGTH {
-        return run_small(settings, steps, records, mass, px, py);
+    if count <= SMALL {
+        run_sized::<SMALL_NUMBERS>(settings, steps, records, mass, px, py)
+    } else if count <= MIDDLE {
+        run_sized::<MIDDLE_NUMBERS>(settings, steps, records, mass, px, py)
+    } else {
+        run_sized::<SET_NUMBERS>(settings, steps, records, mass, px, py)
     }
-    if records.len() <= MIDDLE_LENGTH {
-        return run_middle(settings, steps, records, mass, px, py);
-    }
-    run_large(settings, steps, records, mass, px, py)
 }
 
 // One step, which is a run of one: on success the records hold the moved particles; refused, they are as they were.
@@ -128,11 +80,9 @@ pub fn step(
     mass: &mut [u64],
     px: &mut [i64],
     py: &mut [i64],
-) -> Stepped
-    ensures { Sees (step_after caller settings records.old (grids_of mass.old px.old py.old)) (told_stepped result) records.new mass.new px.new py.new }
+) -> Result<(), Refusal>
+    ensures { Sees (step_after caller settings records.old (grids_of mass.old px.old py.old)) (told result) records.new mass.new px.new py.new }
 {
-    match run(caller, settings, 1, records, mass, px, py) {
-        Ran::Done(_) => Stepped::Done,
-        Ran::Stopped(_, refusal) => Stepped::Refused(refusal),
-    }
+    run(caller, settings, 1, records, mass, px, py).map_err(|stop| stop.refusal)?;
+    Ok(())
 }

@@ -5,11 +5,12 @@ ghost use Rattle.spline.specs.Kernel.{weight_in};
 ghost use Rattle.apic.specs.Step.{grids_of};
 ghost use Rattle.simulation.specs.Internal.{StepReady, Turns, Repeats, current, other};
 
-use gathering::Gathered;
+use refusal::Refusal;
 use settings::Settings;
-use simulation::Ran;
+use simulation::Stop;
 
-// The step after `steps` completed ones, from the array that holds the particles into the other. `repeat` calls it.
+// The step after `steps` completed ones, from the array that holds the particles into the other. The arrays go by the parity of
+// `steps`, and are not exchanged by `swap`, since the caller too finds the particles by it. `repeat` calls it.
 fn turn(
     settings: Settings,
     steps: usize,
@@ -20,7 +21,7 @@ fn turn(
     py: &mut [i64],
     a: &mut [i16],
     b: &mut [i16],
-) -> Gathered
+) -> Result<(), Refusal>
     requires { StepReady settings (current steps a.old b.old) table.now d mass.old px.old py.old (other steps a.old b.old) }
     ensures { Turns (weight_in table.now) d settings steps a.old b.old result mass.new px.new py.new a.new b.new }
 {
@@ -42,17 +43,14 @@ pub fn repeat(
     py: &mut [i64],
     a: &mut [i16],
     b: &mut [i16],
-) -> Ran
+) -> Result<usize, Stop>
     requires { StepReady settings a.old table.now d mass.old px.old py.old b.old }
     ensures { Repeats (weight_in table.now) d settings steps a.old (grids_of mass.old px.old py.old) result mass.new px.new py.new a.new b.new }
 {
-    let mut k = 0;
-    while k < steps {
-        match turn(settings, k, table, d, mass, px, py, a, b) {
-            Gathered::Done => {}
-            Gathered::Refused(refusal) => return Ran::Stopped(k, refusal),
+    for completed in 0..steps {
+        if let Err(refusal) = turn(settings, completed, table, d, mass, px, py, a, b) {
+            return Err(Stop { completed, refusal });
         }
-        k += 1;
     }
-    Ran::Done(k)
+    Ok(steps)
 }

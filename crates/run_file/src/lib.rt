@@ -10,18 +10,18 @@ ghost use Rattle.run_report.specs.Internal.{Begins};
 ghost use Rattle.program.specs.Program.{printed, text_after, file_after, grids_after};
 ghost use Rattle.program.specs.Internal.{AcceptedFile, Prints};
 
-use bath_file::{FileRead, HEADER_LENGTH, Header};
+use bath_file::{HEADER_LENGTH, Header};
 use limits::Caller;
 use program::{MOST_NODES, Printed};
 use refusal::Refusal;
 use report::{Outcome, REPORT_LENGTH};
 
 // The report of a refused file. `run_file` calls it.
-fn report_refusal(refusal: Refusal, file: &[u8], text: &mut [u8]) -> Printed
+fn report_refusal(refusal: Refusal, text: &mut [u8]) -> Printed
     requires { report_length ≤ length text.old }
     ensures { (result.refused ≡ true) × Begins (refused_line (number refusal) (place refusal)) text.old result.length text.new }
 {
-    let length = run_report::put(Outcome::Refused(refusal), &file[..0], text);
+    let length = run_report::put(Outcome::Refused(refusal), &[], text);
     Printed {
         length,
         refused: true,
@@ -67,7 +67,7 @@ pub fn run_file(
         ≡ grids_after file.old (grids_of mass.old px.old py.old) }
 {
     match file_reader::read_file(Caller::Bench, file) {
-        FileRead::Refused(refusal) => report_refusal(refusal, file, text),
-        FileRead::Accepted(h) => run_accepted(h, file, mass, px, py, text),
+        Ok(h) => run_accepted(h, file, mass, px, py, text),
+        Err(refusal) => report_refusal(refusal, text),
     }
 }

@@ -1,12 +1,11 @@
 -- What the internal functions are given and leave: their contracts name these, and no public one does. Assumes nothing.
-use Rattle.std.specs.Prelude.{ℕ, ◌≤◌, ◌≡◌, true, List, ◌++◌, length, drop}
+use Rattle.std.specs.Prelude.{ℕ, ◌≤◌, ◌≡◌, true, List, ◌++◌, length, drop, Result, Ok, Err}
 use Rattle.refusal.specs.Refused.{gives}
 use Rattle.limits.specs.declared.Caller.TheVariants.{Bench}
 use Rattle.particles.specs.Set.{valid_length, particles_in}
 use Rattle.totals.specs.declared.Totals.{Totals}
 use Rattle.totals.specs.Totals.{totals_of, totals_answer}
-use Rattle.simulation.specs.declared.Ran.{Ran}
-use Rattle.simulation.specs.declared.Ran.TheVariants as ran
+use Rattle.simulation.specs.declared.Stop.{Stop}
 use Rattle.bath_file.specs.declared.Header.{Header}
 use Rattle.report.specs.declared.Outcome.{Outcome}
 use Rattle.report.specs.declared.Outcome.TheVariants.{Done, Stopped}
@@ -19,9 +18,9 @@ pub record Reportable (h : Header) (records text : List ℕ) : Type 0 where
   pub room : report_length ≤ length text
 
 -- what a run comes to, with the totals of the records that it left
-abbrev pub outcome_of : Ran → Totals → Outcome
-outcome_of (ran.Done n) t = Done n t
-outcome_of (ran.Stopped n e) t = Stopped n e t
+abbrev pub outcome_of : Result ℕ Stop → Totals → Outcome
+outcome_of (Ok n) t = Done n t
+outcome_of (Err s) t = Stopped s.completed s.refusal t
 
 -- a text was put at the beginning of a buffer, and n is its length
 pub record Begins (text before : List ℕ) (n : ℕ) (after : List ℕ) : Type 0 where

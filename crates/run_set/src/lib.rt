@@ -6,34 +6,21 @@ ghost use Rattle.particle.specs.Layout.{record_length};
 ghost use Rattle.particles.specs.Set.{record_count};
 ghost use Rattle.unpacked.specs.Unpacked.{per_particle};
 ghost use Rattle.packing.specs.Packing.{Packable};
-ghost use Rattle.simulation.specs.Internal.{Settles, RunReady, Runs, current, completed_by};
+ghost use Rattle.simulation.specs.Internal.{Settles, RunReady, Runs, current};
 
 use particle::RECORD_LENGTH;
 use settings::Settings;
-use simulation::Ran;
+use simulation::Stop;
 use unpacked::NUMBERS;
-
-fn completed(ran: Ran) -> usize
-    ensures { result ≡ completed_by ran }
-{
-    match ran {
-        Ran::Done(steps) => steps,
-        Ran::Stopped(steps, _) => steps,
-    }
-}
 
 // Packs the particles after `steps` completed steps. `run_set` calls it.
 fn settle(steps: usize, a: &[i16], b: &[i16], records: &mut [u8])
     requires { Packable (current steps a.now b.now) × (length records.old ≡ record_length * (length (current steps a.now b.now) / per_particle)) }
     ensures { Settles steps (current steps a.now b.now) records.old records.new }
 {
-    if steps == 0 {
-        return;
-    }
-    if steps % 2 == 0 {
-        packing::pack_set(a, records);
-    } else {
-        packing::pack_set(b, records);
+    if steps > 0 {
+        let held = if steps % 2 == 0 { a } else { b };
+        packing::pack_set(held, records);
     }
 }
 
@@ -47,7 +34,7 @@ pub fn run_set(
     py: &mut [i64],
     a: &mut [i16],
     b: &mut [i16],
-) -> Ran
+) -> Result<usize, Stop>
     requires { RunReady settings records.old mass.old px.old py.old × (per_particle * record_count records.old ≤ length a.old) × (per_particle * record_count records.old ≤ length b.old) }
     ensures { Runs settings steps records.old mass.old px.old py.old result records.new mass.new px.new py.new }
 {
@@ -57,6 +44,6 @@ pub fn run_set(
     let table = spline::weight_table();
     unpacking::unpack_set(records, from);
     let ran = run_core::repeat(settings, steps, &table, spline::D, mass, px, py, from, to);
-    settle(completed(ran), from, to, records);
+    settle(ran.unwrap_or_else(|stop| stop.completed), from, to, records);
     ran
 }

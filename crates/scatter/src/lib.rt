@@ -2,20 +2,20 @@
 #![tactic(auto)]
 
 ghost use Rattle.std.specs.Prelude.{◌≡◌, ◌*◌, length};
-ghost use Rattle.refusal.specs.Refused.{gives, and_then};
+ghost use Rattle.refusal.specs.Refused.{gives, and_then, told};
 ghost use Rattle.spline.specs.Spline.{axis_weight, D};
 ghost use Rattle.spline.specs.Kernel.{weight_in};
-ghost use Rattle.particles.specs.Set.{particles_in, told_checked};
+ghost use Rattle.particles.specs.Set.{particles_in};
 ghost use Rattle.scatter_core.specs.Scatter.{ScatteredGrids};
 ghost use Rattle.scatter_particle.specs.Added.{Added};
-ghost use Rattle.transfer.specs.Transfer.{told_scattered, scatter_answer, ScatterIs};
+ghost use Rattle.transfer.specs.Transfer.{scatter_answer, ScatterIs};
 ghost use Rattle.transfer.specs.Internal.{ScatterSet, PartsReady};
 
 use entry::Buffers;
 use limits::Caller;
 use particle::RECORD_LENGTH;
-use particles::Checked;
-use transfer::{PART, PART_LENGTH, PART_NUMBERS, Scattered};
+use refusal::Refusal;
+use transfer::{PART_LENGTH, PART_NUMBERS};
 use unpacked::NUMBERS;
 
 // Adds a set to cleared grids, part by part, through an array with room for the numbers of a part. `scatter_set` calls it.
@@ -33,35 +33,10 @@ fn scatter_parts(
     requires { PartsReady nx ny records.now array.old table.now d mass.old px.old py.old }
     ensures { Added (weight_in table.now) d nx ny (particles_in records.now) mass.old px.old py.old mass.new px.new py.new }
 {
-    let count = records.len() / RECORD_LENGTH;
-    let mut k = 0;
-    while k + PART <= count {
-        let at = RECORD_LENGTH * k;
-        transfer_part::scatter_part(
-            nx,
-            ny,
-            &records[at..at + PART_LENGTH],
-            array,
-            table,
-            d,
-            mass,
-            px,
-            py,
-        );
-        k += PART;
+    for part in records.chunks(PART_LENGTH) {
+        let size = part.len() / RECORD_LENGTH * NUMBERS;
+        transfer_part::scatter_part(nx, ny, part, &mut array[..size], table, d, mass, px, py);
     }
-    let size = NUMBERS * (count - k);
-    transfer_part::scatter_part(
-        nx,
-        ny,
-        &records[RECORD_LENGTH * k..],
-        &mut array[..size],
-        table,
-        d,
-        mass,
-        px,
-        py,
-    );
 }
 
 // Clears the grids and adds an accepted set. `scatter` and crate adding_scatter call it.
@@ -78,9 +53,9 @@ pub fn scatter_set(
 {
     let table = spline::weight_table();
     let mut array = [0i16; PART_NUMBERS];
-    grid_cells::clear_masses(mass);
-    grid_cells::clear(px);
-    grid_cells::clear(py);
+    mass.fill(0);
+    px.fill(0);
+    py.fill(0);
     scatter_parts(nx, ny, records, &mut array, &table, spline::D, mass, px, py);
 }
 
@@ -93,8 +68,8 @@ pub fn check_scatter(
     mass: usize,
     px: usize,
     py: usize,
-) -> Checked
-    ensures { told_checked result ≡ and_then (scatter_answer caller nx ny records.now mass px py) (λ ps. gives (length ps)) }
+) -> Result<usize, Refusal>
+    ensures { told result ≡ and_then (scatter_answer caller nx ny records.now mass px py) (λ ps. gives (length ps)) }
 {
     entry::check(
         caller,
@@ -115,14 +90,10 @@ pub fn scatter(
     mass: &mut [u64],
     px: &mut [i64],
     py: &mut [i64],
-) -> Scattered
-    ensures { ScatterIs caller nx ny records.now mass.old px.old py.old (told_scattered result) mass.new px.new py.new }
+) -> Result<(), Refusal>
+    ensures { ScatterIs caller nx ny records.now mass.old px.old py.old (told result) mass.new px.new py.new }
 {
-    match check_scatter(caller, nx, ny, records, mass.len(), px.len(), py.len()) {
-        Checked::Refused(refusal) => Scattered::Refused(refusal),
-        Checked::Records(_) => {
-            scatter_set(nx, ny, records, mass, px, py);
-            Scattered::Done
-        }
-    }
+    check_scatter(caller, nx, ny, records, mass.len(), px.len(), py.len())?;
+    scatter_set(nx, ny, records, mass, px, py);
+    Ok(())
 }

@@ -11,7 +11,7 @@ use lib.ListN.{length, length-map}
 use lib.IntN.{ℤ, pos, ◌+ℤ◌, ◌-ℤ◌, ◌*ℤ◌}
 use Rattle.arith.specs.Size.{Bound, bound-pos}
 use Rattle.spline.specs.declared.AxisWeights.{AxisWeights}
-use Rattle.grid_cells.specs.Cells.{add_mass_row, MassRowLimits, Cells, most_held, most_added}
+use Rattle.grid_cells.specs.Cells.{add_mass_row, RowLimits, Cells, most_held, most_added}
 use Rattle.grid_cells.proofs.Spots.{length-row, cells-row, cells-widen, masses-row, length-mass-row}
 use Rattle.scatter_block.specs.Lines.{Held, LineNumbers, momentum_row, mass_line, momentum_line, MomentumLimits, LineLimits, LineAdded, most_mass_weight, most_speed, most_change}
 use Rattle.scatter_block.proofs.Momenta.{factors, product-bound}
@@ -20,15 +20,15 @@ weighed-most : {c v m : ℕ} → c ≤ 8380416 → v ≤ 8192 → m ≡ c * v �
 weighed-most h g e = rw e (mul-le-mul h g)
 
 module _ {size : ℕ} {mass : List ℕ} {px py : List ℤ} {k c : ℕ} {w : AxisWeights} {sx bx sy by : ℤ} (limits : LineLimits size mass px py k c w sx bx sy by) {lower nearest upper : ℕ} (p : lower ≡ c * w.lower) (q : nearest ≡ c * w.nearest) (r : upper ≡ c * w.upper) where
-  pub mass-asked : MassRowLimits mass k lower nearest upper
+  pub mass-asked : RowLimits pos mass k lower nearest upper
   mass-asked =
       record {
         low = limits.numbers.low;
         high = rw limits.held.mass-long limits.numbers.high;
         cells = limits.held.mass-cells;
-        u-most = le_trans (weighed-most limits.numbers.c-most limits.numbers.weights.lower-most p) (lit≤ tt);
-        v-most = le_trans (weighed-most limits.numbers.c-most limits.numbers.weights.nearest-most q) (lit≤ tt);
-        w-most = le_trans (weighed-most limits.numbers.c-most limits.numbers.weights.upper-most r) (lit≤ tt);
+        u-most = bound-pos (le_trans (weighed-most limits.numbers.c-most limits.numbers.weights.lower-most p) (lit≤ tt));
+        v-most = bound-pos (le_trans (weighed-most limits.numbers.c-most limits.numbers.weights.nearest-most q) (lit≤ tt));
+        w-most = bound-pos (le_trans (weighed-most limits.numbers.c-most limits.numbers.weights.upper-most r) (lit≤ tt));
       }
 
   -- of either axis; s' and b' are s and b as they are passed on

@@ -5,6 +5,7 @@ use Prim.Native.Nat.{ℕ, ◌≤◌}
 use lib.IntN.{ℤ, pos, ◌+ℤ◌, ◌-ℤ◌, ◌*ℤ◌}
 use mir.Syntax.{w64}
 use mir.Val.{SFits, to_z, of_z}
+use Rattle.std.proofs.lemmas.List.{map-id}
 use Rattle.arith.specs.Size.{Bound, sizes, size-given, fits, bounded}
 use Rattle.arith.specs.Machine.{read, read-natural, fits₂, result₂}
 use Rattle.grid_cells.specs.Cells.{add_row, RowLimits, most_added}
@@ -38,13 +39,13 @@ module _ {l : List ℤ} {k lower nearest upper : ℕ} {s b : ℤ} (limits : Mome
   f : Factors s b
   f = factors s b limits.s-most limits.b-most
 
-  pub row-limits : RowLimits l k (pos lower *ℤ (s -ℤ b)) (pos nearest *ℤ s) (pos upper *ℤ (s +ℤ b))
+  pub row-limits : RowLimits (λ z. z) l k (pos lower *ℤ (s -ℤ b)) (pos nearest *ℤ s) (pos upper *ℤ (s +ℤ b))
   unfolding f
   row-limits =
       record {
         low = limits.low;
         high = limits.high;
-        cells = limits.cells;
+        cells = rw (map-id l) limits.cells;
         u-most = product-bound lower (s -ℤ b) limits.lower-most f.below;
         v-most = product-bound nearest s limits.nearest-most f.here;
         w-most = product-bound upper (s +ℤ b) limits.upper-most f.above;
@@ -78,7 +79,7 @@ module _ {l : List ℤ} {k lower nearest upper : ℕ} {s b : ℤ} (limits : Mome
 
   -- the three shares that the machine passes on
   module _ (l' : List ℤ) {u v w : ℤ} (p : u ≡ pos lower *ℤ (s -ℤ b)) (q : v ≡ pos nearest *ℤ s) (r : w ≡ pos upper *ℤ (s +ℤ b)) where
-    pub asked : RowLimits l k u v w
+    pub asked : RowLimits (λ z. z) l k u v w
     asked = rw (p, q, r) row-limits
 
     pub given : l' ≡ add_row l k u v w → l' ≡ momentum_row l k lower nearest upper s b

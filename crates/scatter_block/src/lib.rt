@@ -7,15 +7,16 @@ ghost use Rattle.scatter_block.specs.Lines.{most_line_mass, momentum_row, Moment
 
 use spline::AxisWeights;
 
-// A mass, or a mass times one axis's weight, times a weight.
+// A mass, or a mass times one axis's weight, times a weight. `add_line` and `add_block` call it.
 fn times(c: u64, w: u16) -> u64
     requires { (c ≤ most_line_mass) × (w ≤ 8192) }
     ensures { result ≡ c * w }
 {
-    c * (w as u64)
+    c * u64::from(w)
 }
 
-// Adds to the momenta of three nodes in a line: mass times weight, times s, which changes by b from node to node.
+// Adds to the momenta of three nodes in a line: mass times weight, times s, which changes by b from node to node. `add_line`
+// calls it.
 fn add_momenta(momenta: &mut [i64], k: usize, lower: u64, nearest: u64, upper: u64, s: i64, b: i64)
     requires { MomentumLimits momenta.old k lower nearest upper s b }
     ensures { momenta.new ≡ momentum_row momenta.old k lower nearest upper s b }
@@ -27,6 +28,7 @@ fn add_momenta(momenta: &mut [i64], k: usize, lower: u64, nearest: u64, upper: u
 }
 
 // Adds a particle's shares to three nodes in a line of each grid: c is its mass times the line's weight.
+// `add_block` calls it.
 fn add_line(
     mass: &mut [u64],
     px: &mut [i64],
@@ -47,7 +49,7 @@ fn add_line(
     let upper = times(c, w.upper);
     add_momenta(py, k, lower, nearest, upper, sy, by);
     add_momenta(px, k, lower, nearest, upper, sx, bx);
-    grid_cells::add_mass_row(mass, k, lower, nearest, upper);
+    grid_cells::add_row(mass, k, lower, nearest, upper);
 }
 
 // Adds a particle's shares to the nine nodes around node k of each grid. The B entries are times 64, the distance between

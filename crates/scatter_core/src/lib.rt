@@ -5,7 +5,7 @@ ghost use Rattle.scatter_core.specs.Scatter.{SetReady, ScatterReady, NthReady, A
 
 use unpacked::NUMBERS;
 
-// Adds the shares of the particle with index k.
+// Adds the shares of the particle with index k. `add_all` calls it.
 fn add_nth(
     particles: &[i16],
     k: usize,
@@ -21,9 +21,9 @@ fn add_nth(
     ensures { AddsNth nx ny particles.now k table.now d mass.old px.old py.old mass.new px.new py.new }
 {
     let at = NUMBERS * k;
-    let m = unpacked::natural_at(particles, at) as u64;
-    let x = unpacked::natural_at(particles, at + 1) as usize;
-    let y = unpacked::natural_at(particles, at + 2) as usize;
+    let m = u64::from(unpacked::natural_at(particles, at));
+    let x = usize::from(unpacked::natural_at(particles, at + 1));
+    let y = usize::from(unpacked::natural_at(particles, at + 2));
     let vx = unpacked::number_at(particles, at + 3);
     let vy = unpacked::number_at(particles, at + 4);
     let bxx = unpacked::number_at(particles, at + 5);
@@ -50,10 +50,8 @@ pub fn add_all(
     ensures { Adds nx ny particles.now table.now d mass.old px.old py.old mass.new px.new py.new }
 {
     let count = particles.len() / NUMBERS;
-    let mut k = 0;
-    while k < count {
+    for k in 0..count {
         add_nth(particles, k, nx, ny, table, d, mass, px, py);
-        k += 1;
     }
 }
 
@@ -71,8 +69,8 @@ pub fn scatter_all(
     requires { ScatterReady nx ny particles.now table.now d mass.old px.old py.old }
     ensures { Scatters nx ny particles.now table.now d mass.new px.new py.new }
 {
-    grid_cells::clear_masses(mass);
-    grid_cells::clear(px);
-    grid_cells::clear(py);
+    mass.fill(0);
+    px.fill(0);
+    py.fill(0);
     add_all(particles, nx, ny, table, d, mass, px, py);
 }

@@ -7,7 +7,7 @@ ghost use Rattle.limits.specs.Limits.{most_position, most_affine};
 ghost use Rattle.spline.specs.Kernel.{weight_in};
 ghost use Rattle.scatter_particle.specs.Added.{Added, ParticleReady, unlabelled, Middle, SpeedLimits};
 
-// The nearest node minus particle, along one axis.
+// The nearest node minus particle, along one axis. `add_particle` calls it.
 fn middle(x: usize) -> i64
     requires { x ≤ most_position }
     ensures { Middle x result }
@@ -15,7 +15,7 @@ fn middle(x: usize) -> i64
     32 - (((x + 32) % 64) as i64)
 }
 
-// A particle's momentum per mass and weight at the node that is dx and dy from it.
+// A particle's momentum per mass and weight at the node that is dx and dy from it. `add_particle` calls it.
 fn speed(d: u64, v: i64, bx: i64, by: i64, dx: i64, dy: i64) -> i64
     requires { SpeedLimits d v bx by dx dy }
     ensures { result ≡ pos d *ℤ v +ℤ bx *ℤ dx +ℤ by *ℤ dy }
@@ -23,7 +23,7 @@ fn speed(d: u64, v: i64, bx: i64, by: i64, dx: i64, dy: i64) -> i64
     (d as i64) * v + bx * dx + by * dy
 }
 
-// What an entry of B adds from a node to its neighbour.
+// What an entry of B adds from a node to its neighbour. `add_particle` calls it.
 fn spread(b: i64) -> i64
     requires { Bound b most_affine }
     ensures { result ≡ pos 64 *ℤ b }

@@ -8,9 +8,9 @@ use bath_file::FILE_ROOM;
 use program::MOST_NODES;
 use report::REPORT_LENGTH;
 use std::io::{Read, Write};
-use streams::Input;
 
-// Writes the text at the beginning of a buffer, that of a refused file to standard error too. `answer` calls it.
+// Writes the text at the beginning of a buffer, that of a refused file to standard error too, or else says there that it could not.
+// A line that standard error does not take has nowhere else to go. `answer` calls it.
 fn deliver<O: Write, E: Write>(
     output: &mut O,
     errors: &mut E,
@@ -20,12 +20,11 @@ fn deliver<O: Write, E: Write>(
 )
     requires { end ≤ length text.now }
 {
-    if !streams::write_all(output, &text[..end]) {
-        streams::write_all(errors, b"report could not be written in full\n");
-        return;
-    }
-    if refused {
-        streams::write_all(errors, &text[..end]);
+    let report = &text[..end];
+    if output.write_all(report).is_err() {
+        let _ = errors.write_all(b"report could not be written in full\n");
+    } else if refused {
+        let _ = errors.write_all(report);
     }
 }
 
@@ -58,9 +57,9 @@ pub fn serve<I: Read, O: Write, E: Write>(
     text: &mut [u8; REPORT_LENGTH],
 ) {
     match input::read_input(input, file) {
-        Input::Failed => {
-            streams::write_all(errors, b"input could not be read\n");
+        Ok(length) => answer(output, errors, file, length, mass, px, py, text),
+        Err(_) => {
+            let _ = errors.write_all(b"input could not be read\n");
         }
-        Input::Read(length) => answer(output, errors, file, length, mass, px, py, text),
     }
 }

@@ -41,7 +41,8 @@ pub fn still(nx: usize, ny: usize) -> Settings
     }
 }
 
-// The edge of a kind and a width, as a file and other languages give them. What is no edge becomes one that is refused.
+// The edge of a kind and a width, as a file and other languages give them, by number. What is no edge becomes one that is refused,
+// so this cannot fail, and `TryFrom` would.
 pub fn edge_of(kind: usize, width: usize) -> Edge
     ensures { result ≡ edge_of kind width }
 {
@@ -83,6 +84,7 @@ pub fn of_numbers(
     }
 }
 
+// A test by itself, as that of a mass. `edge_is_valid` calls it.
 fn width_is_valid(width: usize) -> bool
     ensures { result ≡ valid_width width }
 {

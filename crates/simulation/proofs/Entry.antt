@@ -11,12 +11,11 @@ use lib.ListN.{length}
 use lib.IntN.{ℤ}
 use Rattle.refusal.specs.Refused.{Answer, gives, refused, refused_by, and_then, either, done}
 use Rattle.refusal.specs.declared.Refusal.{Refusal}
-use Rattle.refusal.proofs.Answers.{went_on}
+use Rattle.refusal.proofs.Answers.{went_on, same-result}
 use Rattle.limits.specs.declared.Caller.{Caller}
 use Rattle.particle.specs.declared.Particle.{Particle}
-use Rattle.particles.specs.declared.Checked.{Checked}
-use Rattle.particles.specs.declared.Checked.TheVariants as checked
-use Rattle.particles.specs.Set.{records_of, particles_in, told_checked}
+use Rattle.particles.specs.Set.{record_count, records_of, particle_in, particles_in}
+use Rattle.arith.specs.Lists.{length-tabulated}
 use Rattle.unpacking.proofs.Sets.{set-length}
 use Rattle.settings.specs.declared.Settings.{Settings}
 use Rattle.entry.specs.Entry.{entry_answer, begin_answer}
@@ -46,15 +45,23 @@ module _ (caller : Caller) (s : Settings) (steps : ℕ) (records mass : List ℕ
         py-long = l.y-is;
       }
 
-  -- what the check at entry tells
-  module _ {r : Checked} (e : told_checked r ≡ and_then (entry_answer caller s (buffers_of (grids_of mass px py)) steps records) (λ ps. gives (length ps))) where
-    pub entry_done : {n : ℕ} → r ≡ checked.Records n → (ps : List Particle) × (entry ≡ gives ps)
-    unfolding run_entry
-    entry_done d = let w = went_on entry (λ ps. gives (length ps)) (sym e ∙ ap told_checked d) in (w.0, w.1)
+  run-count : {ps : List Particle} → entry ≡ gives ps → length ps ≡ record_count records
+  unfolding particles_in
+  run-count e =
+      ap length (sym (ready-run caller s records steps (grids_of mass px py) e).holds)
+      ∙ length-tabulated (λ k. particle_in records k) (record_count records)
 
-    pub entry-refused : {f : Refusal} → r ≡ checked.Refused f → entry ≡ refused_by f
-    unfolding run_entry
-    entry-refused d = kept-refusal entry length (sym e ∙ ap told_checked d)
+  -- what the check at entry tells
+  abbrev pub told_entry : Answer ℕ
+  told_entry = and_then (entry_answer caller s (buffers_of (grids_of mass px py)) steps records) (λ ps. gives (length ps))
+
+  pub entry_done : {n : ℕ} → gives n ≡ told_entry → (ps : List Particle) × (entry ≡ gives ps) × (n ≡ record_count records)
+  unfolding run_entry
+  entry_done e = let w = went_on entry (λ ps. gives (length ps)) (sym e) in (w.0, w.1, sym (same-result w.2) ∙ run-count w.1)
+
+  pub entry-refused : (f : Refusal) → refused_by f ≡ told_entry → entry ≡ refused_by f
+  unfolding run_entry
+  entry-refused f e = kept-refusal entry length (sym e)
 
   -- ---- what the run leaves
 

@@ -4,11 +4,13 @@
 --     gather-ready     after the update the gather's
 --     step-leaves      and the gather leaves the step
 -- Assumes nothing.
+use Rattle.std.proofs.Common.{Result, Ok, Err}
 use mathlib.Core.Path.{◌≡◌, refl, sym, ap, ap₂, subst, subst₂, ◌∙◌}
 use mathlib.Core.List.{List}
 use Prim.Native.Nat.{ℕ}
 use lib.IntN.{ℤ}
-use Rattle.refusal.specs.Refused.{gives}
+use Rattle.refusal.specs.Refused.{gives, told}
+use Rattle.refusal.specs.declared.Refusal.{Refusal}
 use Rattle.spline.specs.Kernel.{weight_in}
 use Rattle.particle.specs.declared.Particle.{Particle}
 use Rattle.apic.specs.Step.{along_x, along_y}
@@ -17,9 +19,7 @@ use Rattle.unpacked.specs.Unpacked.{Holds}
 use Rattle.scatter_core.specs.Scatter.{ScatteredGrids, ScatterReady, Scatters}
 use Rattle.update.specs.Update.{velocities}
 use Rattle.update.specs.Internal.{GridLimits}
-use Rattle.gathering.specs.declared.Gathered.{Gathered}
-use Rattle.gathering.specs.declared.Gathered.TheVariants.{Done, Refused}
-use Rattle.gathering.specs.Gather.{told_gathered, NodeVelocities, Gatherable, GathersFrom, Gathers}
+use Rattle.gathering.specs.Gather.{NodeVelocities, Gatherable, GathersFrom, Gathers}
 use Rattle.gathering.proofs.Checks.{follow, checks-follow}
 use Rattle.gathering.proofs.Kept.{all_moved}
 use Rattle.settings.specs.declared.Settings.{Settings}
@@ -86,7 +86,7 @@ module _ {s : Settings} {source : List ℤ} {weights : List (List ℕ)} {d : ℕ
             room = ready.room;
           }
 
-      pub step-leaves : {target' : List ℤ} {r : Gathered} → Gathers (weight_in weights) 0 s.nx s.ny source px₂ py₂ target target' r → Steps (weight_in weights) d s source r mass₁ px₂ py₂ target'
+      pub step-leaves : {target' : List ℤ} {r : Result Unit Refusal} → Gathers (weight_in weights) 0 s.nx s.ny source px₂ py₂ target target' r → Steps (weight_in weights) d s source r mass₁ px₂ py₂ target'
       unfolding stepped_by step_by
       step-leaves {target'} {r} gathers ps holds =
           record {
@@ -94,13 +94,13 @@ module _ {s : Settings} {source : List ℤ} {weights : List (List ℕ)} {d : ℕ
             answer =
                 followed r (stepped_by (weight_in weights) d s ps) ∙ ap (λ a. follow a (gives (stepped_by (weight_in weights) d s ps))) gathered-are.answer
                 ∙ sym (checks-follow s.nx s.ny (move_by (weight_in weights) d s ps) 0 ps (gives (stepped_by (weight_in weights) d s ps)));
-            moved = λ e. all_moved holds ready.room gathered-are (ap told_gathered e);
+            moved = λ e. all_moved holds ready.room gathered-are (ap told e);
           }
         where
           gathered-are : GathersFrom (weight_in weights) 0 s.nx s.ny ps (velocities_by (weight_in weights) d s along_x ps) (velocities_by (weight_in weights) d s along_y ps) target target' r
           gathered-are =
               subst₂ (λ u v. GathersFrom (weight_in weights) 0 s.nx s.ny ps u v target target' r) (ux-is ps holds) (uy-is ps holds) (gathers ps holds)
 
-          followed : (r : Gathered) (qs : List Particle) → told_gathered_to r qs ≡ follow (told_gathered r) (gives qs)
-          followed Done qs = refl
-          followed (Refused e) qs = refl
+          followed : (r : Result Unit Refusal) (qs : List Particle) → told_gathered_to r qs ≡ follow (told r) (gives qs)
+          followed (Ok tt) qs = refl
+          followed (Err e) qs = refl

@@ -1,14 +1,15 @@
 -- A run, turn by turn, and from records to records.
 --     RunningFrom, Running     the loop's invariant: what remains to be done from here, added to what is done, is the whole run
---     running-start .. running-end
---                              its begin, a step, a stop and its end
+--     running-stop, running-next, running-end
+--                              a stop, a step and its end
 --     repeat-ready, settle-ready, run-seen, built-in-run
 --                              from records to numbers and back
 -- Assumes nothing.
+use Rattle.std.proofs.Common.{Result, Ok, Err}
 use mathlib.Core.Path.{◌≡◌, refl, sym, ap, ap₂, subst, ◌∙◌}
 use mathlib.Core.List.{List}
-use Prim.Native.Nat.{ℕ, suc, ◌+◌, ◌-◌, ◌*◌, ◌/◌, ◌<◌, ◌≤◌}
-use native.Mathlib.Nat.{zero-add, add-zero, add-suc, suc-add}
+use Prim.Native.Nat.{ℕ, suc, ◌+◌, ◌-◌, ◌*◌, ◌/◌, ◌<◌}
+use native.Mathlib.Nat.{add-zero, add-suc, suc-add}
 use native.Mathlib.Numerals.{add-one}
 use native.Mathlib.Omega.{arith}
 use lib.ListN.{length, length-map}
@@ -28,11 +29,8 @@ use Rattle.unpacked.specs.Unpacked.{per_particle, unpacked, Holds}
 use Rattle.unpacked.proofs.Laws.{numbers-count}
 use Rattle.packing.specs.Packing.{labels}
 use Rattle.unpacking.proofs.Sets.{unpacked-accepted}
-use Rattle.gathering.specs.declared.Gathered.{Gathered}
-use Rattle.gathering.specs.declared.Gathered.TheVariants as gathered
 use Rattle.settings.specs.declared.Settings.{Settings}
-use Rattle.simulation.specs.declared.Ran.{Ran}
-use Rattle.simulation.specs.declared.Ran.TheVariants.{Done, Stopped}
+use Rattle.simulation.specs.declared.Stop.{Stop}
 use Rattle.simulation.specs.Step.{After, seen, nodes_by, stepped_by, step_by}
 use Rattle.simulation.specs.Run.{Completion, after_one, run_by, run_from, told_ran}
 use Rattle.simulation.specs.Internal.{StepReady, StepLeaves, Turns, RepeatsFrom, Repeats, Settles, RunReady, told_gathered_to, current, other, records_after, completed_by}
@@ -76,34 +74,10 @@ pub record RunningFrom (w : ℕ → ℕ → ℤ) (D : ℕ) (s : Settings) (steps
 -- from whichever particles the source holds
 pub record Running (s : Settings) (steps : ℕ) (weights : List (List ℕ)) (d : ℕ) (source : List ℤ) (grids : Grids) (k : ℕ) (mass : List ℕ) (px py a b : List ℤ) : Type 0 where
   pub ready : StepReady s (current k a b) weights d mass px py (other k a b)
-  pub most : k ≤ steps
   pub from : (ps : List Particle) → Holds s.nx s.ny source ps → RunningFrom (weight_in weights) d s steps ps grids k mass px py a b
 
-module _ {s : Settings} {weights : List (List ℕ)} {d : ℕ} {mass : List ℕ} {px py a b : List ℤ} where
-  pub running-start : (steps : ℕ) → StepReady s a weights d mass px py b → Running s steps weights d a (grids_of mass px py) 0 mass px py a b
-  running-start steps ready =
-      record {
-        ready = ready;
-        most = omega arith;
-        from = λ ps holds.
-            record {
-              particles = ps;
-              holds = holds;
-              labelled = refl;
-              is = λ records.
-                  ap (λ n. plus 0 (run_by (weight_in weights) d s n records ps (grids_of mass px py))) (whole steps)
-                  ∙ none (run_by (weight_in weights) d s steps records ps (grids_of mass px py));
-            };
-      }
-    where
-      whole : (n : ℕ) → n - 0 ≡ n
-      whole n = omega arith
-
-      none : (r : After Completion) → plus 0 r ≡ r
-      none r = ap (λ n. seen (record { completed = n; stop = r.answer.stop }) r.records r.grids) (zero-add r.answer.completed)
-
 -- a completed step from the particles that the array holds
-module _ {w : ℕ → ℕ → ℤ} {D : ℕ} {s : Settings} {k : ℕ} {a b a' b' : List ℤ} {r : Gathered} {mass' : List ℕ} {px' py' : List ℤ} (t : Turns w D s k a b r mass' px' py' a' b') (c : r ≡ gathered.Done) {qs : List Particle} (holds : Holds s.nx s.ny (current k a b) qs) where
+module _ {w : ℕ → ℕ → ℤ} {D : ℕ} {s : Settings} {k : ℕ} {a b a' b' : List ℤ} {r : Result Unit Refusal} {mass' : List ℕ} {px' py' : List ℤ} (t : Turns w D s k a b r mass' px' py' a' b') (c : r ≡ Ok tt) {qs : List Particle} (holds : Holds s.nx s.ny (current k a b) qs) where
   passed : step_by w D s qs ≡ gives (stepped_by w D s qs)
   passed = sym (t.step qs holds).answer ∙ ap (λ x. told_gathered_to x (stepped_by w D s qs)) c
 
@@ -116,7 +90,7 @@ module _ {w : ℕ → ℕ → ℤ} {D : ℕ} {s : Settings} {k : ℕ} {a b a' b'
 
 module _ {w : ℕ → ℕ → ℤ} {D : ℕ} {s : Settings} {steps : ℕ} {grids : Grids} {k : ℕ} {mass : List ℕ} {px py a b : List ℤ} where
   -- a step of the run from the particles ps
-  module _ (less : k < steps) {ps : List Particle} (h : RunningFrom w D s steps ps grids k mass px py a b) {r : Gathered} {mass' : List ℕ} {px' py' a' b' : List ℤ} (t : Turns w D s k a b r mass' px' py' a' b') where
+  module _ (less : k < steps) {ps : List Particle} (h : RunningFrom w D s steps ps grids k mass px py a b) {r : Result Unit Refusal} {mass' : List ℕ} {px' py' a' b' : List ℤ} (t : Turns w D s k a b r mass' px' py' a' b') where
     abbrev here : List Particle
     here = h.particles
 
@@ -133,7 +107,7 @@ module _ {w : ℕ → ℕ → ℤ} {D : ℕ} {s : Settings} {steps : ℕ} {grids
     whole : (records : List ℕ) → plus k (rest records) ≡ run_by w D s steps records ps grids
     whole records = ap (λ n. plus k (run_by w D s n (records_after records k here) here (grids_of mass px py))) (sym left) ∙ h.is records
 
-    stop-from : {e : Refusal} → r ≡ gathered.Refused e → RepeatsFrom w D s steps ps grids (Stopped k e) mass' px' py' a' b'
+    stop-from : {e : Refusal} → r ≡ Err e → RepeatsFrom w D s steps ps grids (Err (record { completed = k; refusal = e })) mass' px' py' a' b'
     stop-from {e} c =
         record {
           particles = here;
@@ -147,7 +121,7 @@ module _ {w : ℕ → ℕ → ℤ} {D : ℕ} {s : Settings} {steps : ℕ} {grids
               );
         }
 
-    module _ (c : r ≡ gathered.Done) where
+    module _ (c : r ≡ Ok tt) where
       one_more : (r : After Completion) → plus (suc k) r ≡ plus k (after_one r)
       one_more r =
           ap (λ n. seen (record { completed = n; stop = r.answer.stop }) r.records r.grids) (suc-add k r.answer.completed ∙ sym (add-suc k r.answer.completed))
@@ -165,8 +139,8 @@ module _ {w : ℕ → ℕ → ℤ} {D : ℕ} {s : Settings} {steps : ℕ} {grids
                 ∙ whole records;
           }
 
-  end-from : {ps : List Particle} → RunningFrom w D s steps ps grids k mass px py a b → steps ≤ k → k ≤ steps → RepeatsFrom w D s steps ps grids (Done k) mass px py a b
-  end-from {ps} h e most =
+  end-from : {ps : List Particle} → RunningFrom w D s steps ps grids k mass px py a b → k ≡ steps → RepeatsFrom w D s steps ps grids (Ok k) mass px py a b
+  end-from {ps} h e =
       record {
         particles = h.particles;
         holds = h.holds;
@@ -184,11 +158,11 @@ module _ {w : ℕ → ℕ → ℤ} {D : ℕ} {s : Settings} {steps : ℕ} {grids
       none = omega arith
 
 module _ {s : Settings} {steps : ℕ} {weights : List (List ℕ)} {d : ℕ} {source : List ℤ} {grids : Grids} {k : ℕ} {mass : List ℕ} {px py a b : List ℤ} (h : Running s steps weights d source grids k mass px py a b) where
-  module _ (less : k < steps) {r : Gathered} {mass' : List ℕ} {px' py' a' b' : List ℤ} (t : Turns (weight_in weights) d s k a b r mass' px' py' a' b') where
-    pub running-stop : {e : Refusal} → r ≡ gathered.Refused e → Repeats (weight_in weights) d s steps source grids (Stopped k e) mass' px' py' a' b'
+  module _ (less : k < steps) {r : Result Unit Refusal} {mass' : List ℕ} {px' py' a' b' : List ℤ} (t : Turns (weight_in weights) d s k a b r mass' px' py' a' b') where
+    pub running-stop : {e : Refusal} → r ≡ Err e → Repeats (weight_in weights) d s steps source grids (Err (record { completed = k; refusal = e })) mass' px' py' a' b'
     running-stop c ps holds = stop-from less (h.from ps holds) t c
 
-    module _ (c : r ≡ gathered.Done) where
+    module _ (c : r ≡ Ok tt) where
       -- some particles that the array holds
       abbrev some : List Particle
       some = h.ready.set.particles
@@ -221,13 +195,13 @@ module _ {s : Settings} {steps : ℕ} {weights : List (List ℕ)} {d : ℕ} {sou
           }
 
       running-suc : Running s steps weights d source grids (suc k) mass' px' py' a' b'
-      running-suc = record { ready = next-ready; most = omega arith; from = λ ps holds. next-from less (h.from ps holds) t c }
+      running-suc = record { ready = next-ready; from = λ ps holds. next-from less (h.from ps holds) t c }
 
       pub running-next : Running s steps weights d source grids (k + 1) mass' px' py' a' b'
       running-next = subst (λ n. Running s steps weights d source grids n mass' px' py' a' b') (sym (add-one k)) running-suc
 
-  pub running-end : steps ≤ k → Repeats (weight_in weights) d s steps source grids (Done k) mass px py a b
-  running-end e ps holds = end-from (h.from ps holds) e h.most
+  pub running-end : k ≡ steps → Repeats (weight_in weights) d s steps source grids (Ok steps) mass px py a b
+  running-end e ps holds = subst (λ n. RepeatsFrom (weight_in weights) d s steps ps grids (Ok n) mass px py a b) e (end-from (h.from ps holds) e)
 
 -- ---- from records to numbers and back
 
@@ -251,7 +225,7 @@ module _ {s : Settings} {records mass : List ℕ} {px py : List ℤ} (ready : Ru
           room = r;
         }
 
-    module _ {w : ℕ → ℕ → ℤ} {D steps : ℕ} {r : Ran} {mass' : List ℕ} {px' py' a' b' : List ℤ} (t : Repeats w D s steps a (grids_of mass px py) r mass' px' py' a' b') {k : ℕ} (same : k ≡ completed_by r) where
+    module _ {w : ℕ → ℕ → ℤ} {D steps : ℕ} {r : Result ℕ Stop} {mass' : List ℕ} {px' py' a' b' : List ℤ} (t : Repeats w D s steps a (grids_of mass px py) r mass' px' py' a' b') {k : ℕ} (same : k ≡ completed_by r) where
       after : RepeatsFrom w D s steps (particles_in records) (grids_of mass px py) r mass' px' py' a' b'
       after = t (particles_in records) holds
 

@@ -1,6 +1,6 @@
 -- Demand 3 where every call has open edges and no drag: what completed steps keep in document 01's words, in which drag and rim do
 -- not occur. A corollary of `Demand3`. Assumes nothing.
-use Rattle.std.specs.Prelude.{◌≡◌, List, map, ℕ, ℤ, pos, ◌+ℤ◌, ◌-ℤ◌, ◌*ℤ◌}
+use Rattle.std.specs.Prelude.{◌≡◌, List, map, ℕ, pos, ◌+ℤ◌, ◌-ℤ◌, ◌*ℤ◌}
 use Rattle.arith.specs.Order.{Within}
 use Rattle.arith.specs.Sums.{Each, sum_over}
 use Rattle.particle.specs.declared.Particle.{Particle}

@@ -1,6 +1,6 @@
 -- Document 01, "A run repeats the step", and the operation run: what a caller with any numbers and any buffers sees after a
 -- call. Assumes nothing.
-use Rattle.std.specs.Prelude.{List, ℕ, zero, suc, ℤ}
+use Rattle.std.specs.Prelude.{List, ℕ, zero, suc, ℤ, Result, Ok, Err}
 use Rattle.refusal.specs.Refused.{Answer, refused, refused_by, either, done}
 use Rattle.limits.specs.declared.Caller.{Caller}
 use Rattle.spline.specs.Spline.{axis_weight, D}
@@ -8,8 +8,7 @@ use Rattle.entry.specs.Entry.{entry_answer}
 use Rattle.particle.specs.declared.Particle.{Particle}
 use Rattle.particles.specs.Set.{records_of}
 use Rattle.settings.specs.declared.Settings.{Settings}
-use Rattle.simulation.specs.declared.Ran.{Ran}
-use Rattle.simulation.specs.declared.Ran.TheVariants.{Done, Stopped}
+use Rattle.simulation.specs.declared.Stop.{Stop}
 use Rattle.apic.specs.Step.{Grids}
 use Rattle.simulation.specs.Step.{After, buffers_of, step_by, nodes_by}
 
@@ -17,6 +16,11 @@ use Rattle.simulation.specs.Step.{After, buffers_of, step_by, nodes_by}
 pub record Completion : Type 0 where
   pub completed : ℕ
   pub stop : Answer Unit
+
+-- what a run's result tells
+abbrev pub told_ran : Result ℕ Stop → Completion
+told_ran (Ok n) = record { completed = n; stop = done }
+told_ran (Err s) = record { completed = s.completed; stop = refused_by s.refusal }
 
 -- one completed step more
 abbrev pub after_one : After Completion → After Completion
@@ -49,7 +53,3 @@ unfoldable pub run_after : Caller → Settings → ℕ → List ℕ → Grids �
 run_after caller s steps records grids =
     either (run_entry caller s steps records grids) (λ ps. run_from s steps records ps grids)
     (λ n k. record { answer = record { completed = 0; stop = refused n k }; records = records; grids = grids })
-
-abbrev pub told_ran : Ran → Completion
-told_ran (Done n) = record { completed = n; stop = done }
-told_ran (Stopped n e) = record { completed = n; stop = refused_by e }

@@ -1,7 +1,7 @@
 -- Documents 01 and 02, "The step" and the operation step: scatter, update and gather on a particle set, and what a caller with any
 -- numbers and any buffers sees after a call: the answer, the records and the three grids. Assumes nothing.
 use Rattle.std.specs.Prelude.{◌≡◌, List, map, ℕ, length, ℤ, nat_abs}
-use Rattle.refusal.specs.Refused.{Answer, gives, refused, refused_by, either, done}
+use Rattle.refusal.specs.Refused.{Answer, gives, refused, either, done}
 use Rattle.limits.specs.declared.Caller.{Caller}
 use Rattle.spline.specs.Spline.{axis_weight, D}
 use Rattle.particle.specs.declared.Particle.{Particle}
@@ -13,8 +13,6 @@ use Rattle.entry.specs.declared.Buffers.TheVariants.{Three}
 use Rattle.entry.specs.Entry.{entry_answer}
 use Rattle.update.specs.Update.{velocities}
 use Rattle.settings.specs.declared.Settings.{Settings}
-use Rattle.simulation.specs.declared.Stepped.{Stepped}
-use Rattle.simulation.specs.declared.Stepped.TheVariants.{Done, Refused}
 
 -- ---- scatter, update, gather, with axis weights w and their second moment d
 
@@ -105,7 +103,3 @@ unfoldable pub step_after : Caller → Settings → List ℕ → Grids → After
 step_after caller s records grids =
     either (step_entry caller s records grids) (λ ps. step_from s records ps)
     (λ n k. record { answer = refused n k; records = records; grids = grids })
-
-abbrev pub told_stepped : Stepped → Answer Unit
-told_stepped Done = done
-told_stepped (Refused e) = refused_by e

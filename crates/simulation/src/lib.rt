@@ -1,18 +1,24 @@
-// The answers of a step and a run. What they do stands in specs/, what follows from it in proofs/.
+// What stops a run. What a step and a run do stands in specs/, what follows from it in proofs/.
 #![tactic(auto)]
+
+ghost use Rattle.std.specs.Prelude.{◌≡◌};
 
 use refusal::Refusal;
 
-// The answer of a step.
-#[derive(Drop)]
-pub enum Stepped {
-    Done,
-    Refused(Refusal),
+// A run that a refusal stopped: the number of completed steps, and the refusal. One that is refused at entry has completed none.
+#[derive(Clone, Copy)]
+pub struct Stop {
+    pub completed: usize,
+    pub refusal: Refusal,
 }
 
-// The answer of a run: the number of completed steps, and the first refusal if one stopped it.
-#[derive(Clone, Copy)]
-pub enum Ran {
-    Done(usize),
-    Stopped(usize, Refusal),
+impl From<Refusal> for Stop {
+    ghost from_gives = { λ e s. s ≡ record { completed = 0; refusal = e } };
+
+    fn from(refusal: Refusal) -> Stop {
+        Stop {
+            completed: 0,
+            refusal,
+        }
+    }
 }

@@ -1,12 +1,11 @@
 -- Document 01, operation "Weights": what it answers for any offset, and the same as a table.
 -- Assumes nothing.
-use Rattle.std.specs.Prelude.{not, ◌&&◌, List, [], ◌∷◌, map, ℕ, get_or, ℤ, pos, negsuc, nat_abs, ◌-ℤ◌}
+use Rattle.refusal.specs.declared.Refusal.{Refusal}
+use Rattle.std.specs.Prelude.{not, ◌&&◌, List, [], ◌∷◌, map, ℕ, get_or, ℤ, pos, negsuc, nat_abs, ◌-ℤ◌, Result, Ok, Err}
 use Rattle.std.specs.Int.Signed.{le_z}
 use Rattle.arith.specs.Sums.{up_to}
 use Rattle.refusal.specs.Refused.{Answer, gives, refused_by, refuse_if}
 use Rattle.spline.specs.declared.AxisWeights.{AxisWeights}
-use Rattle.spline.specs.declared.Weighed.{Weighed}
-use Rattle.spline.specs.declared.Weighed.TheVariants.{Weights, Refused}
 use Rattle.spline.specs.Spline.{lower_weight, nearest_weight, upper_weight}
 
 -- the three weights of one axis
@@ -21,13 +20,13 @@ three q = record { lower = lower_weight q; nearest = nearest_weight q; upper = u
 abbrev pub three_of : AxisWeights → Three
 three_of w = record { lower = pos w.lower; nearest = pos w.nearest; upper = pos w.upper }
 
-abbrev pub told_weights : Weighed → Answer Three
-told_weights (Weights w) = gives (three_of w)
-told_weights (Refused e) = refused_by e
-
 -- 7 where the offset is outside −32 to 31
 abbrev pub weights_answer : ℤ → Answer Three
 weights_answer q = refuse_if (not (le_z (negsuc 31) q && le_z q (pos 31))) 7 0 (gives (three q))
+
+abbrev pub told_weights : Result AxisWeights Refusal → Answer Three
+told_weights (Ok w) = gives (three_of w)
+told_weights (Err e) = refused_by e
 
 -- the table: 64 rows of three numbers, row k for offset k − 32
 abbrev pub table_row : ℤ → List ℕ

@@ -16,12 +16,6 @@ pub struct AxisWeights {
     pub upper: u16,
 }
 
-#[derive(Drop)]
-pub enum Weighed {
-    Weights(AxisWeights),
-    Refused(Refusal),
-}
-
 // The weights' second moment for a total of 1, in squared position units: the D of the transfers.
 pub const D: u64 = 1024;
 
@@ -83,11 +77,9 @@ pub fn weight_table() -> [[u16; 3]; 64]
 {
     let rows = tested_rows();
     let mut table = [[0u16; 3]; 64];
-    let mut k = 0;
-    while k < 32 {
+    for k in 0..32 {
         table[k] = mirrored(rows[32 - k]);
         table[63 - k] = rows[31 - k];
-        k += 1;
     }
     table
 }
@@ -108,16 +100,16 @@ pub fn weights_at(table: &[[u16; 3]; 64], x: usize) -> AxisWeights
 
 // The weights of the three nodes around a particle at offset q from its nearest node, by their formulas. It does not look
 // the constant up: an index into one builds it whole.
-pub fn weights(q: i64) -> Weighed
+pub fn weights(q: i64) -> Result<AxisWeights, Refusal>
     ensures { told_weights result ≡ weights_answer q }
 {
     if q < -32 {
-        return Weighed::Refused(Refusal::Position(0));
+        return Err(Refusal::Position(0));
     }
     if q > 31 {
-        return Weighed::Refused(Refusal::Position(0));
+        return Err(Refusal::Position(0));
     }
-    Weighed::Weights(AxisWeights {
+    Ok(AxisWeights {
         lower: ((32 - q) * (32 - q)) as u16,
         nearest: (6144 - 2 * q * q) as u16,
         upper: ((32 + q) * (32 + q)) as u16,

@@ -4,7 +4,7 @@
 ghost use Rattle.spline.specs.Kernel.{weight_in};
 ghost use Rattle.simulation.specs.Internal.{StepReady, Steps};
 
-use gathering::Gathered;
+use refusal::Refusal;
 use settings::Settings;
 
 // The step: scatter, update, gather. Crate run_core calls it.
@@ -17,7 +17,7 @@ pub fn step_particles(
     px: &mut [i64],
     py: &mut [i64],
     to: &mut [i16],
-) -> Gathered
+) -> Result<(), Refusal>
     requires { StepReady settings from.now table.now d mass.old px.old py.old to.old }
     ensures { Steps (weight_in table.now) d settings from.now result mass.new px.new py.new to.new }
 {

@@ -1,6 +1,6 @@
 -- What the internal functions are given, compute and leave: their contracts name these, and no public operation's does.
 -- Assumes nothing.
-use Rattle.std.specs.Prelude.{◌≡◌, Bool, true, not, ◌&&◌, ◌||◌, List, ℕ, suc, ◌≤◌, ◌<◌, ltb, length, drop}
+use Rattle.std.specs.Prelude.{◌≡◌, Bool, true, not, ◌&&◌, ◌||◌, List, ℕ, suc, ◌≤◌, ◌<◌, ltb, length, drop, Option, Some, None}
 use Rattle.refusal.specs.Refused.{Answer, gives, refuse_if, Leaves}
 use Rattle.store.specs.Names.{name_length, all_zero, valid_name}
 use Rattle.store.specs.Form.{most_file, place_count, store_length, name_in, room_in, file_length, occupied, place_at, places, is_named, valid_store}
@@ -10,6 +10,11 @@ use Rattle.store.specs.Operations.{with_place, place_for, kept_place}
 abbrev pub valid_at : List ℕ → ℕ → Bool
 valid_at store k =
     all_zero (place_at store k) || occupied (place_at store k) && not (is_named (name_in (place_at store k)) (drop (suc k) (places store)))
+
+-- a place that is looked for: none where its number is 4
+abbrev pub Found : ℕ → Option ℕ → Type 0
+Found n (Some k) = (k ≡ n) × (k < place_count)
+Found n None = n ≡ place_count
 
 -- a store and a name that have passed their checks
 pub record Begun (store name : List ℕ) : Type 0 where

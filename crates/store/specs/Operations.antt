@@ -3,13 +3,9 @@
 use Rattle.std.specs.Prelude.{◌≡◌, Bool, not, cond, ◌&&◌, List, [], ◌++◌, ℕ, ◌*◌, leb, ltb, length, drop}
 use Rattle.std.proofs.Math.Option.{Option, none, some}
 use Rattle.arith.specs.Lists.{placed}
-use Rattle.refusal.specs.Refused.{Answer, gives, refused, refused_by, refuse_if, and_then, either, told_of, done}
+use Rattle.refusal.specs.Refused.{Answer, gives, refused, refuse_if, and_then, either, told_of}
 use Rattle.limits.specs.declared.Caller.{Caller}
 use Rattle.bath_file.specs.File.{file_answer}
-use Rattle.store.specs.declared.Changed.{Changed}
-use Rattle.store.specs.declared.Changed.TheVariants as changed
-use Rattle.store.specs.declared.Returned.{Returned}
-use Rattle.store.specs.declared.Returned.TheVariants as returned
 use Rattle.store.specs.Names.{name_length, padded, valid_name}
 use Rattle.store.specs.Form.{most_file, place_length, place_count, valid_store, place_of, holds}
 
@@ -74,15 +70,6 @@ unfoldable pub forget_leaves : List ℕ → List ℕ → List ℕ
 forget_leaves store name = either (forget_answer store name) (λ k. with_place store k free_place) (λ n k. store)
 
 -- ---- what the functions answer
-
-abbrev pub told_changed : Changed → Answer Unit
-told_changed changed.Done = done
-told_changed (changed.Refused e) = refused_by e
-
--- the length of the file
-abbrev pub told_returned : Returned → Answer ℕ
-told_returned (returned.Length n) = gives n
-told_returned (returned.Refused e) = refused_by e
 
 abbrev pub length_of : Answer (List ℕ) → Answer ℕ
 length_of a = and_then a (λ file. gives (length file))

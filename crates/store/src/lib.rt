@@ -4,7 +4,6 @@
 
 use bath_file::HEADER_LENGTH;
 use particles::SET_LENGTH;
-use refusal::Refusal;
 
 // The longest name in bytes, and the longest file.
 pub const NAME_LENGTH: usize = 8;
@@ -17,17 +16,3 @@ pub const PLACE_LENGTH: usize = NAME_LENGTH + MOST_FILE;
 pub const PLACE_COUNT: usize = 4;
 
 pub const STORE_LENGTH: usize = PLACE_LENGTH * PLACE_COUNT;
-
-// What keep and forget answer.
-#[derive(Drop)]
-pub enum Changed {
-    Done,
-    Refused(Refusal),
-}
-
-// What return answers: the length of the file.
-#[derive(Drop)]
-pub enum Returned {
-    Length(usize),
-    Refused(Refusal),
-}

@@ -1,3 +1,1 @@
 pub mod Zeros
-pub mod Equal
-pub mod Names

@@ -1,19 +1,19 @@
--- `all_zero` over what is left of some bytes, as loops test it.
---     or-zero                   the bits of two numbers together are none where each has none
---     byte-joined, no_byte      one byte more, and none left
---     block-zero, block-not-zero    a block of bytes that are zero, and one that is not
+-- `all_zero` by the bits of all bytes, and block by block.
+--     zero-joined                the bits that are joined are none where each byte has none
+--     zero-blocks, zero-found    so many whole blocks, and what is left behind them
 -- Assumes nothing.
 use mathlib.Core.Path.{◌≡◌, refl, sym, ap, ap₂, ◌∙◌}
 use mathlib.Core.Bool.{Bool, true, false, ◌&&◌, and-true, and_assoc}
-use mathlib.Core.List.{List}
-use Prim.Native.Nat.{ℕ, suc, ◌+◌, ◌-◌, ◌≤◌, ◌<◌}
-use native.Mathlib.Numerals.{add-one}
+use mathlib.Core.List.{List, [], ◌∷◌}
+use Prim.Native.Nat.{ℕ, zero, suc, ◌+◌, ◌*◌}
 use native.Mathlib.Omega.{arith}
 use borrow.Author.Tests.{eqb-true, eqb-false, eq-eqb, ne_eqb}
 use lib.Bits.{bit_or, or_add_and, and_le_l, and_le_r, or_zero_l}
 use lib.Dec.{eqb}
-use lib.ListN.{length, get_or, take, drop, take-append-drop, drop_of_length-le}
-use lib.Seq.{drop-cons, drop-drop}
+use lib.ListN.{take, drop, take-append-drop}
+use lib.Seq.{drop-drop}
+use Rattle.std.specs.List.{fold, list_all}
+use Rattle.std.specs.Simd.{first_chunks}
 use Rattle.store.specs.Names.{all_zero}
 use Rattle.store.proofs.Bytes.{zero-append}
 
@@ -25,33 +25,26 @@ or-zero a b = go (eqb a 0) refl (eqb b 0) refl
     go true e false f = ne_eqb (bit_or a b) 0 (λ z. eqb-false b 0 f (omega (arith, z, or_add_and a b, and_le_l a b, and_le_r a b)))
     go false e t f = ne_eqb (bit_or a b) 0 (λ z. eqb-false a 0 e (omega (arith, z, or_add_and a b, and_le_l a b, and_le_r a b)))
 
-module _ (l : List ℕ) where
-  pub byte-joined : (all k : ℕ) → k < length l → (eqb all 0 && all_zero (drop k l)) ≡ (eqb (bit_or all (get_or l k 0)) 0 && all_zero (drop (k + 1) l))
-  unfolding all_zero
-  byte-joined all k h =
-      ap (λ r. eqb all 0 && all_zero r) (drop-cons l k 0 h)
-      ∙ sym (and_assoc (eqb all 0) (eqb (get_or l k 0) 0) (all_zero (drop (suc k) l)))
-      ∙ ap₂ ◌&&◌ (sym (or-zero all (get_or l k 0))) (ap (λ n. all_zero (drop n l)) (sym (add-one k)))
+pub zero-joined : (l : List ℕ) (a : ℕ) → eqb (fold bit_or a l) 0 ≡ (eqb a 0 && all_zero l)
+unfolding all_zero
+zero-joined [] a = sym (and-true (eqb a 0))
+zero-joined (b ∷ l) a = zero-joined l (bit_or a b) ∙ ap (λ t. t && all_zero l) (or-zero a b) ∙ and_assoc (eqb a 0) (eqb b 0) (all_zero l)
 
-  pub no_byte : (all k : ℕ) → length l ≤ k → (eqb all 0 && all_zero (drop k l)) ≡ eqb all 0
-  unfolding all_zero
-  no_byte all k h = ap (λ r. eqb all 0 && all_zero r) (drop_of_length-le l {i = k} h) ∙ and-true (eqb all 0)
+pub zero-blocks : (n k : ℕ) (l : List ℕ) → (list_all all_zero (first_chunks n k l) && all_zero (drop (k * n) l)) ≡ all_zero l
+zero-blocks n zero l = ap (λ m. all_zero (drop m l)) {x = 0 * n} {y = 0} (omega arith)
+zero-blocks n (suc k) l =
+    and_assoc (all_zero (take n l)) (list_all all_zero (first_chunks n k (drop n l))) (all_zero (drop (suc k * n) l))
+    ∙ ap (λ r. all_zero (take n l) && (list_all all_zero (first_chunks n k (drop n l)) && all_zero r)) rest
+    ∙ ap (λ t. all_zero (take n l) && t) (zero-blocks n k (drop n l))
+    ∙ sym (zero-append (take n l) (drop n l))
+    ∙ ap all_zero (take-append-drop n l)
+  where
+    rest : drop (suc k * n) l ≡ drop (k * n) (drop n l)
+    rest = ap (λ m. drop m l) {x = suc k * n} {y = n + k * n} (omega arith) ∙ sym (drop-drop (k * n) n l)
 
-  block : (at n : ℕ) → all_zero (drop at l) ≡ (all_zero (take n (drop at l)) && all_zero (drop (at + n) l))
-  block at n =
-      ap all_zero (sym (take-append-drop n (drop at l)))
-      ∙ zero-append (take n (drop at l)) (drop n (drop at l))
-      ∙ ap (λ r. all_zero (take n (drop at l)) && all_zero r) (drop-drop n at l)
-
-  module _ (at n r : ℕ) (e : eqb r 0 ≡ all_zero (take (at + n - at) (drop at l))) where
-    tested : all_zero (take n (drop at l)) ≡ eqb r 0
-    tested = sym (e ∙ ap (λ k. all_zero (take k (drop at l))) (room at n))
-      where
-        room : (a n : ℕ) → a + n - a ≡ n
-        room a n = omega arith
-
-    pub block-zero : r ≡ 0 → all_zero (drop at l) ≡ all_zero (drop (at + n) l)
-    block-zero z = block at n ∙ ap (λ t. t && all_zero (drop (at + n) l)) (tested ∙ eq-eqb r 0 z)
-
-    pub block-not-zero : (r ≡ 0 → ⊥) → all_zero (drop at l) ≡ false
-    block-not-zero h = block at n ∙ ap (λ t. t && all_zero (drop (at + n) l)) (tested ∙ ne_eqb r 0 h)
+-- by what is found of the blocks
+pub zero-found : (n k : ℕ) (l : List ℕ) {blocks : List (List ℕ)} {rest : List ℕ} {t : Bool} → blocks ≡ first_chunks n k l → rest ≡ drop (k * n) l → t ≡ list_all all_zero blocks → (t && all_zero rest) ≡ all_zero l
+zero-found n k l {rest = rest} p q e =
+    ap (λ t. t && all_zero rest) e
+    ∙ ap₂ (λ b r. list_all all_zero b && all_zero r) p q
+    ∙ zero-blocks n k l

@@ -3,56 +3,59 @@
 #![tactic(auto)]
 
 use limits::Caller;
-use lines::lists::{NODES, octets, within};
-use lines::print;
-
-// The names that a line may begin with, each the number that its letters make in ASCII.
-const KEEP: u64 = 0x6b656570;
-
-const RETURN: u64 = 0x72657475726e;
-
-const FORGET: u64 = 0x666f72676574;
+use lines::console::Console;
+use lines::lists::List;
+use lines::operation::Operation;
+use std::io;
+use store::{NAME_LENGTH, PLACE_LENGTH};
 
 // So many bytes of a buffer are printed behind a return.
 const SHOWN: usize = 48;
 
-fn keep(caller: Caller, store: &mut [u8], file: &[u8]) {
-    let mut room = [0; NODES];
-    let name = octets(&mut room);
-    print::answer(by_caller::keep(caller, store, name, file));
+fn keep(console: &mut Console, caller: Caller, store: &mut [u8], file: &[u8]) -> io::Result<()> {
+    let mut name = List::read(console)?;
+    console.answer(by_caller::keep(caller, store, name.lent(), file))
 }
 
-fn return_to(store: &[u8], buffer: &mut [u8]) {
-    let mut room = [0; NODES];
+fn return_to(console: &mut Console, store: &[u8], buffer: &mut [u8]) -> io::Result<()> {
+    let mut name = List::read(console)?;
     let mut size = 7;
-    let name = octets(&mut room);
-    print::answer(gondwize::gondwize_return(store, name, buffer, &mut size));
-    print::count(size);
-    print::bytes(&buffer[..within(SHOWN, buffer.len())]);
+    console.answer(gondwize::gondwize_return(store, name.lent(), buffer, &mut size))?;
+    console.values('n', &[size])?;
+    let shown = SHOWN.min(buffer.len());
+    console.values('b', &buffer[..shown])
 }
 
-fn forget(store: &mut [u8]) {
-    let mut room = [0; NODES];
-    let name = octets(&mut room);
-    print::answer(gondwize::gondwize_forget(store, name));
+fn forget(console: &mut Console, store: &mut [u8]) -> io::Result<()> {
+    let mut name = List::read(console)?;
+    console.answer(gondwize::gondwize_forget(store, name.lent()))
 }
 
-// Calls an operation; false where it is none of these.
-fn called(name: u64, caller: Caller, store: &mut [u8], bytes: &mut [u8]) -> bool {
-    match name {
-        KEEP => keep(caller, store, bytes),
-        RETURN => return_to(store, bytes),
-        FORGET => forget(store),
-        _ => return false,
+// The names of a store's places, as the places hold them.
+fn names(console: &mut Console, store: &[u8]) -> io::Result<()> {
+    let mut names = Vec::new(console.alloc);
+    for place in store.chunks_exact(PLACE_LENGTH) {
+        names.extend(place.iter().take(NAME_LENGTH).copied())?;
     }
-    true
+    console.values('s', &names)
 }
 
-// Calls an operation with as much of the store as is lent, and prints the names of all places; nothing where the line names none of
-// the three. The program `cases` calls it with every line but those of operations that may change the bytes by themselves.
-pub fn call(name: u64, caller: Caller, lent: usize, store: &mut [u8], bytes: &mut [u8]) {
-    let n = within(lent, store.len());
-    if called(name, caller, &mut store[..n], bytes) {
-        print::names(store);
+// Calls an operation with as much of the store as is lent, and prints the names of all places; nothing where it is none of the
+// three. The program `cases` calls it.
+pub fn call(
+    operation: Operation,
+    console: &mut Console,
+    caller: Caller,
+    store: &mut [u8],
+    lent: usize,
+    bytes: &mut [u8],
+) -> io::Result<()> {
+    let lent = lent.min(store.len());
+    match operation {
+        Operation::Keep => keep(console, caller, &mut store[..lent], bytes)?,
+        Operation::Return => return_to(console, &store[..lent], bytes)?,
+        Operation::Forget => forget(console, &mut store[..lent])?,
+        _ => return Ok(()),
     }
+    names(console, store)
 }

@@ -4,19 +4,21 @@
 --     named, none_named, unnamed           `first_named` from k on
 --     valid-next, valid-end                `valid_places` from k on
 -- Assumes nothing.
-use mathlib.Core.Path.{◌≡◌, refl, sym, ap, ◌∙◌}
+use mathlib.Core.Path.{◌≡◌, sym, ap, subst, ◌∙◌}
 use mathlib.Core.Bool.{Bool, true, false, not, cond, ◌&&◌}
 use mathlib.Core.List.{List, [], ◌∷◌}
 use Prim.Native.Nat.{ℕ, suc, ◌+◌, ◌-◌, ◌*◌, ◌≤◌, ◌<◌}
 use native.Mathlib.Numerals.{add-one}
 use native.Mathlib.Omega.{arith}
-use borrow.Author.Tests.{eqb-true, eqb-false, lt-ltb, le-ltb}
-use lib.Dec.{eqb, ltb}
+use borrow.Author.Tests.{lt-ltb, le-ltb}
+use lib.Dec.{ltb}
 use lib.ListN.{length, take, drop, length-drop, drop_of_length-le}
 use lib.Seq.{drop-cons, take-take}
 use Rattle.store.specs.Names.{name_length, same_bytes}
 use Rattle.store.specs.Form.{place_length, place_count, name_in, place_at, places, first_named, is_named, valid_places}
-use Rattle.store.specs.Internal.{valid_at}
+use Rattle.std.specs.Prelude.{Option, Some, None}
+use Rattle.std.specs.Option.{is_some}
+use Rattle.store.specs.Internal.{valid_at, Found}
 use Rattle.store.proofs.Stores.{places-long, place_is}
 
 module _ (store : List ℕ) where
@@ -58,18 +60,20 @@ module _ (store : List ℕ) where
   unfolding first_named
   none_named k held h = ap (first_named held) (no_place k h)
 
-  -- the search from k + 1 on finds no place, or one
-  pub unnamed : (k : ℕ) (held : List ℕ) {r : ℕ} → k < place_count → r ≡ k + 1 + first_named held (drop (k + 1) (places store)) → r ≤ place_count → eqb r place_count ≡ not (is_named held (drop (suc k) (places store)))
-  unnamed k held h e most =
-      last (suc k) (first_named held (drop (suc k) (places store))) h (e ∙ ap (λ n. n + first_named held (drop n (places store))) (add-one k)) most
+  -- the search from k + 1 on finds a place with the name, or none
+  pub unnamed : (k : ℕ) (held : List ℕ) (r : Option ℕ) {t : Bool} → k < place_count → Found (k + 1 + first_named held (drop (k + 1) (places store))) r → is_some r ≡ not t → t ≡ not (is_named held (drop (suc k) (places store)))
+  unnamed k held r {t} h e is =
+      turned t is
+      ∙ ap not (there (suc k) (first_named held (drop (suc k) (places store))) r h (subst (λ n. Found (n + first_named held (drop n (places store))) r) (add-one k) e))
       ∙ ap (λ n. not (ltb (first_named held (drop (suc k) (places store))) n)) (sym (places-left (suc k)))
     where
-      last : (n f : ℕ) {r c : ℕ} → n ≤ c → r ≡ n + f → r ≤ c → eqb r c ≡ not (ltb f (c - n))
-      last n f {r} {c} h e most = by-test (eqb r c) refl
-        where
-          by-test : (t : Bool) → eqb r c ≡ t → t ≡ not (ltb f (c - n))
-          by-test true t = ap not (sym (le-ltb f (c - n) (omega (arith, eqb-true r c t))))
-          by-test false t = ap not (sym (lt-ltb f (c - n) (omega (arith, eqb-false r c t))))
+      turned : {s : Bool} (t : Bool) → s ≡ not t → t ≡ not s
+      turned true e = ap not (sym e)
+      turned false e = ap not (sym e)
+
+      there : (n f : ℕ) (r : Option ℕ) → n ≤ place_count → Found (n + f) r → is_some r ≡ ltb f (place_count - n)
+      there n f None h e = sym (le-ltb f (place_count - n) (omega arith))
+      there n f (Some k) h e = sym (lt-ltb f (place_count - n) (omega (arith, e.0, e.1)))
 
   pub valid-next : (k : ℕ) {t : Bool} → k < place_count → valid_at store k ≡ t → valid_places (drop k (places store)) ≡ (t && valid_places (drop (suc k) (places store)))
   unfolding valid_places

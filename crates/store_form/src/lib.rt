@@ -5,9 +5,9 @@ ghost use Rattle.std.specs.Prelude.{◌≡◌, ◌+◌, ◌≤◌, ◌<◌, leng
 ghost use Rattle.bath_file.specs.Layout.{header_length};
 ghost use Rattle.store.specs.Names.{valid_held_name};
 ghost use Rattle.store.specs.Form.{place_length, place_count, store_length, file_length, valid_room, occupied, places, first_named, valid_store};
-ghost use Rattle.store.specs.Internal.{valid_at};
+ghost use Rattle.store.specs.Internal.{valid_at, Found};
 
-use bath_file::{FileRead, HEADER_LENGTH};
+use bath_file::HEADER_LENGTH;
 use limits::Caller;
 use particle::RECORD_LENGTH;
 use store::{NAME_LENGTH, PLACE_COUNT, PLACE_LENGTH, STORE_LENGTH};
@@ -31,10 +31,8 @@ fn valid_room(room: &[u8]) -> bool
     if room.len() < end {
         return false;
     }
-    match file_reader::read_file(Caller::Bench, &room[..end]) {
-        FileRead::Refused(_) => false,
-        FileRead::Accepted(_) => store_bytes::all_zero(&room[end..]),
-    }
+    file_reader::read_file(Caller::Bench, &room[..end]).is_ok()
+        && store_bytes::all_zero(&room[end..])
 }
 
 // A name as a place holds it: letters, and zeros after them.
@@ -53,21 +51,19 @@ fn occupied(place: &[u8]) -> bool
     valid_held_name(&place[..NAME_LENGTH]) && valid_room(&place[NAME_LENGTH..])
 }
 
-// The first place from `from` on that has these eight bytes as its name, or 4 where none has. `valid_at` calls it, and so does crate
-// store_place, with a store of its length.
-pub fn find(store: &[u8], from: usize, held: &[u8]) -> usize
+// The first place from `from` on that has these eight bytes as its name. `valid_at` calls it, and so does crate store_place, with a
+// store of its length.
+pub fn find(store: &[u8], from: usize, held: &[u8]) -> Option<usize>
     requires { (length store.now ≡ store_length) × (from ≤ place_count) }
-    ensures { (result ≡ from + first_named held.now (drop from (places store.now))) × (result ≤ place_count) }
+    ensures { Found (from + first_named held.now (drop from (places store.now))) result }
 {
-    let mut k = from;
-    while k < PLACE_COUNT {
+    for k in from..PLACE_COUNT {
         let at = PLACE_LENGTH * k;
         if store_bytes::same(&store[at..at + NAME_LENGTH], held) {
-            return k;
+            return Some(k);
         }
-        k += 1;
     }
-    k
+    None
 }
 
 // One turn of `valid_store`.
@@ -77,10 +73,8 @@ fn valid_at(store: &[u8], k: usize) -> bool
 {
     let at = PLACE_LENGTH * k;
     let place = &store[at..at + PLACE_LENGTH];
-    if store_bytes::all_zero(place) {
-        return true;
-    }
-    occupied(place) && find(store, k + 1, &place[..NAME_LENGTH]) == PLACE_COUNT
+    store_bytes::all_zero(place)
+        || occupied(place) && find(store, k + 1, &place[..NAME_LENGTH]).is_none()
 }
 
 // Any bytes are a store of its length and form.
@@ -90,12 +84,10 @@ pub fn valid_store(store: &[u8]) -> bool
     if store.len() != STORE_LENGTH {
         return false;
     }
-    let mut k = 0;
-    while k < PLACE_COUNT {
+    for k in 0..PLACE_COUNT {
         if !valid_at(store, k) {
             return false;
         }
-        k += 1;
     }
     true
 }

@@ -15,26 +15,31 @@ use borrow.Rule.Slice.PartMut.{mid_of, put_mid, Post-is}
 use borrow.Author.Tests.{lt-ltb, le-ltb}
 use lib.ListN.{length, take, drop, replicate, length-append, length-drop}
 use lib.Seq.{take_at, take-length, drop-drop, drop-length, length-take-le}
+use Rattle.std.specs.Prelude.{Option, Some, None}
 use Rattle.arith.specs.Lists.{length_part, drop-take, placed-back}
 use Rattle.store.specs.Names.{name_length, padded}
 use Rattle.store.specs.Form.{most_file, place_length, place_count, store_length, room_in, file_length, file_in, place_at, places, first_named, place_of}
 use Rattle.store.specs.Operations.{with_place, place_for, kept_place, free_place}
+use Rattle.store.specs.Internal.{Found}
 use Rattle.store.proofs.Bytes.{padded-length}
 
 -- ---- a place by its name
 
-pub name-place : (store name : List ℕ) {held : List ℕ} {k : ℕ} → held ≡ padded name_length name → k ≡ 0 + first_named held (drop 0 (places store)) → k ≡ place_of store name
+pub name-place : (store name : List ℕ) (r : Option ℕ) {held : List ℕ} → held ≡ padded name_length name → Found (0 + first_named held (drop 0 (places store))) r → Found (place_of store name) r
 unfolding place_of
-name-place store name {held} h e = e ∙ zero-add (first_named held (places store)) ∙ ap (λ n. first_named n (places store)) h
+name-place store name r {held} h f =
+    subst (λ n. Found n r) (zero-add (first_named held (places store)) ∙ ap (λ n. first_named n (places store)) h) f
 
-module _ (store name : List ℕ) {k : ℕ} (e : k ≡ place_of store name) where
-  pub held_place : k < place_count → k ≡ place_for store name
+module _ (store name : List ℕ) where
+  pub held_place : {k : ℕ} → Found (place_of store name) (Some k) → Found (place_for store name) (Some k)
   unfolding place_for
-  held_place l = e ∙ sym (ap (λ t. cond t (place_of store name) (place_of store [])) (lt-ltb (place_of store name) place_count (omega (arith, e))))
+  held_place {k} f =
+      subst (λ n. Found n (Some k)) (sym (ap (λ t. cond t (place_of store name) (place_of store [])) (lt-ltb (place_of store name) place_count (omega (arith, f.0, f.1))))) f
 
-  pub free-place : place_count ≤ k → {j : ℕ} → j ≡ place_of store [] → j ≡ place_for store name
+  pub free-place : (r : Option ℕ) → Found (place_of store name) None → Found (place_of store []) r → Found (place_for store name) r
   unfolding place_for
-  free-place l f = f ∙ sym (ap (λ t. cond t (place_of store name) (place_of store [])) (le-ltb (place_of store name) place_count (omega (arith, e))))
+  free-place r n f =
+      subst (λ n. Found n r) (sym (ap (λ t. cond t (place_of store name) (place_of store [])) (le-ltb (place_of store name) place_count (omega (arith, n))))) f
 
 -- ---- a place written
 

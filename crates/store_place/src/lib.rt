@@ -5,32 +5,30 @@ ghost use Rattle.std.specs.Prelude.{◌≡◌, ◌++◌, ◌≤◌, ◌<◌, len
 ghost use Rattle.store.specs.Names.{name_length};
 ghost use Rattle.store.specs.Form.{most_file, place_length, place_count, store_length, file_in, place_at, place_of};
 ghost use Rattle.store.specs.Operations.{with_place, place_for, kept_place, free_place};
-ghost use Rattle.store.specs.Internal.{Keepable, Copyable};
+ghost use Rattle.store.specs.Internal.{Found, Keepable, Copyable};
 
-use store::{MOST_FILE, NAME_LENGTH, PLACE_COUNT, PLACE_LENGTH};
+use store::{MOST_FILE, NAME_LENGTH, PLACE_LENGTH};
 
-// The place that has a name, or 4 where none has. `place_for` calls it, and so does crate store_calls, with a store of its length and
-// a name that is not too long.
-pub fn place_of(store: &[u8], name: &[u8]) -> usize
+// The place that has a name. `place_for` calls it, and so does crate store_calls, with a store of its length and a name that is not
+// too long.
+pub fn place_of(store: &[u8], name: &[u8]) -> Option<usize>
     requires { (length store.now ≡ store_length) × (length name.now ≤ name_length) }
-    ensures { (result ≡ place_of store.now name.now) × (result ≤ place_count) }
+    ensures { Found (place_of store.now name.now) result }
 {
     let mut held = [0u8; NAME_LENGTH];
     store_bytes::fill(name, &mut held);
     store_form::find(store, 0, &held)
 }
 
-// The place that a bath takes, or 4 where there is none. Crate store_calls calls it with the same.
-#[tactic(auto, unfolding(store::specs::Operations::place_for), using(std::proofs::lemmas::Bool::Decides::nat_tests))]
-pub fn place_for(store: &[u8], name: &[u8]) -> usize
+// The place that a bath takes. Crate store_calls calls it with the same.
+pub fn place_for(store: &[u8], name: &[u8]) -> Option<usize>
     requires { (length store.now ≡ store_length) × (length name.now ≤ name_length) }
-    ensures { (result ≡ place_for store.now name.now) × (result ≤ place_count) }
+    ensures { Found (place_for store.now name.now) result }
 {
-    let k = place_of(store, name);
-    if k < PLACE_COUNT {
-        return k;
+    match place_of(store, name) {
+        Some(k) => Some(k),
+        None => place_of(store, &[]),
     }
-    place_of(store, &name[..0])
 }
 
 // Writes a place. `put` calls it with one, and with a name and a file that it has room for.

@@ -1,74 +1,29 @@
-// Standard input read to its end, and a text written whole: a failure is told apart from an end.
+// Standard input read to its end: a failure is told apart from an end.
 #![tactic(auto)]
 
-ghost use Rattle.streams.specs.Streams.{ReadWithin};
+ghost use Rattle.std.specs.Prelude.{◌≤◌, length, IfOk};
 
-use std::io::{Error, ErrorKind, Read, Write};
+use std::io::{ErrorKind, Read, Result};
 
-// The most calls that one input or one text takes: one for each byte, and those that a signal interrupted.
+// The most calls that one input takes: one for each byte, and those that a signal interrupted.
 const MOST_CALLS: u32 = 1000000;
 
-// What reading an input comes to.
-#[derive(Drop)]
-pub enum Input {
-    // as many bytes: all that there are, or a full buffer
-    Read(usize),
-    // a read failed
-    Failed,
-}
-
-// Whether the call that just failed is to be made again: a signal came before it moved a byte.
-fn interrupted(failure: &Error) -> bool {
-    failure.kind() == ErrorKind::Interrupted
-}
-
-// Reads until the input ends or the buffer is full; a read into no room answers 0, as at the end.
-pub fn read_all<R: Read>(input: &mut R, buffer: &mut [u8]) -> Input
-    ensures { ReadWithin result buffer.new }
+// Reads until the input ends or the buffer is full, and answers how many bytes that were; a read into no room answers 0, as at the
+// end. A call that a signal interrupted before it moved a byte is made again. std reads to an end only into memory of the heap.
+pub fn read_all<R: Read>(input: &mut R, buffer: &mut [u8]) -> Result<usize>
+    ensures { IfOk result (λ n. n ≤ length buffer.new) }
 {
     let mut done = 0;
-    let mut calls = MOST_CALLS;
-    while calls > 0 {
-        calls -= 1;
+    for _ in 0..MOST_CALLS {
         match input.read(&mut buffer[done..]) {
-            Ok(got) => {
-                if got == 0 {
-                    return Input::Read(done);
-                }
-                done += got;
-            }
+            Ok(0) => return Ok(done),
+            Ok(got) => done += got,
             Err(failure) => {
-                if !interrupted(&failure) {
-                    return Input::Failed;
+                if failure.kind() != ErrorKind::Interrupted {
+                    return Err(failure);
                 }
             }
         }
     }
-    Input::Failed
-}
-
-// Writes all of a text, and answers whether it could.
-pub fn write_all<W: Write>(output: &mut W, text: &[u8]) -> bool {
-    let mut done = 0;
-    let mut calls = MOST_CALLS;
-    while calls > 0 {
-        calls -= 1;
-        if done == text.len() {
-            return true;
-        }
-        match output.write(&text[done..]) {
-            Ok(put) => {
-                if put == 0 {
-                    return false;
-                }
-                done += put;
-            }
-            Err(failure) => {
-                if !interrupted(&failure) {
-                    return false;
-                }
-            }
-        }
-    }
-    false
+    Err(ErrorKind::Interrupted.into())
 }

@@ -1,103 +1,84 @@
--- A text with numbers in its places, byte by byte.
---     number-piece, byte-piece, last-piece    what a byte becomes: a number, itself, and itself where no number is left
---     gap-left, byte_left                   the numbers that are left then
---     Filling, filling-..                     the loop that puts such a text, turn by turn
+-- A form with numbers in its gaps, byte by byte.
+--     number-piece, byte-piece, last-piece   what a byte becomes: a number where it is a gap and one is left, and else itself
+--     Filling, filling-..         the loop that puts such a form, turn by turn
 -- Assumes nothing.
 use Prim.Native.Nat.{ℕ, ◌+◌, ◌≤◌, ◌<◌}
 use native.Mathlib.Numerals.{add-one}
 use native.Mathlib.Omega.{arith}
-use mathlib.Core.Path.{◌≡◌, refl, sym, ap, ◌∙◌}
+use mathlib.Core.Path.{◌≡◌, refl, sym, ap, ap₂, ◌∙◌}
 use mathlib.Core.Bool.{cond}
-use mathlib.Core.List.{List, [], ◌∷◌, ◌++◌, append_assoc, append-nil}
+use mathlib.Core.List.{List, [], ◌∷◌, ◌++◌, map, append_assoc, append-nil}
 use borrow.Author.Tests.{eq-eqb, ne_eqb}
-use lib.IntN.{ℤ, pos}
 use lib.ListN.{length, get_or, drop, drop_of_length-le}
-use lib.Seq.{drop-cons, drop-drop}
-use Rattle.text.specs.Decimal.{signed}
+use lib.Seq.{drop-cons}
+use Rattle.text.specs.declared.Text.{Text}
 use Rattle.text.specs.Internal.{Room, Put, gap, piece_of, left_by, filled_in}
-use Rattle.text.proofs.Puts.{put-none, put_then, room-first, room-second}
-use Rattle.text.proofs.Texts.{room_as, put_as}
+use Rattle.text.proofs.Puts.{put-none, put_then, room-first, room-second, room_as, put_as}
 
--- ---- a byte
+-- ---- a byte, and the numbers that are left behind it
 
-module _ (b : ℕ) (numbers : List ℤ) (k : ℕ) where
-  pub number-piece : b ≡ gap → k < length numbers → piece_of b (drop k numbers) ≡ signed (get_or numbers k (pos 0))
-  number-piece e h =
-      ap (piece_of b) (drop-cons numbers k (pos 0) h) ∙ ap (λ t. cond t (signed (get_or numbers k (pos 0))) (b ∷ [])) (eq-eqb b gap e)
+abbrev pub Turn : ℕ → List (List ℕ) → List ℕ → List (List ℕ) → Type 0
+Turn b ns piece left = (piece ≡ piece_of b ns) × (left ≡ left_by b ns)
 
-  pub last-piece : length numbers ≤ k → piece_of b (drop k numbers) ≡ b ∷ []
-  last-piece h = ap (piece_of b) (drop_of_length-le numbers h)
+pub number-piece : {A : Type 0} (f : A → List ℕ) {xs ys : List A} {x : A} (b : ℕ) → b ≡ gap → xs ≡ x ∷ ys → Turn b (map f xs) (f x) (map f ys)
+number-piece f {ys = ys} {x} b e q =
+    let n = f x in
+    let ns = map f ys in
+    let t = eq-eqb b gap e in
+    rw q (sym (ap (λ t. cond t n (b ∷ [])) t), sym (ap (λ t. cond t ns (n ∷ ns)) t))
 
-  pub byte-piece : (b ≡ gap → ⊥) → piece_of b (drop k numbers) ≡ b ∷ []
-  byte-piece n = go (drop k numbers)
-    where
-      go : (zs : List ℤ) → piece_of b zs ≡ b ∷ []
-      go [] = refl
-      go (z ∷ zs) = ap (λ t. cond t (signed z) (b ∷ [])) (ne_eqb b gap n)
+pub byte-piece : (b : ℕ) (ns : List (List ℕ)) → (b ≡ gap → ⊥) → Turn b ns (b ∷ []) ns
+byte-piece b [] h = (refl, refl)
+byte-piece b (n ∷ ns) h =
+    let t = ne_eqb b gap h in (
+      sym (ap (λ t. cond t n (b ∷ [])) t),
+      sym (ap (λ t. cond t ns (n ∷ ns)) t),
+    )
 
-  pub byte_left : (b ≡ gap → ⊥) → drop k numbers ≡ left_by b (drop k numbers)
-  byte_left n = go (drop k numbers)
-    where
-      go : (zs : List ℤ) → zs ≡ left_by b zs
-      go [] = refl
-      go (z ∷ zs) = sym (ap (λ t. cond t zs (z ∷ zs)) (ne_eqb b gap n))
-
-  pub gap-left : b ≡ gap → drop (k + 1) numbers ≡ left_by b (drop k numbers)
-  gap-left e = sym (drop-drop 1 k numbers) ∙ go (drop k numbers)
-    where
-      go : (zs : List ℤ) → drop 1 zs ≡ left_by b zs
-      go [] = refl
-      go (z ∷ zs) = sym (ap (λ t. cond t zs (z ∷ zs)) (eq-eqb b gap e))
+pub last-piece : {A : Type 0} (f : A → List ℕ) (b : ℕ) (xs : List A) → length xs ≡ 0 → Turn b (map f xs) (b ∷ []) (map f xs)
+last-piece f b [] e = (refl, refl)
+last-piece f b (x ∷ xs) e = absurd (omega arith)
 
 -- ---- the loop
 
--- the first i bytes of the text are put, with the first numbers in their places
-pub record Filling (text : List ℕ) (numbers : List ℤ) (out : List ℕ) (at : ℕ) (after : List ℕ) (last i k : ℕ) : Type 0 where
-  pub within : i ≤ length text
-  pub passed : k ≤ i
+-- the first i bytes of the form are put, and these numbers are left for the others
+pub record Filling (form : List ℕ) (numbers : List (List ℕ)) (t t' : Text) (i : ℕ) (left : List (List ℕ)) : Type 0 where
+  pub within : i ≤ length form
   pub done : List ℕ
-  pub put : Put out at done after last
-  pub whole : filled_in text numbers ≡ done ++ filled_in (drop i text) (drop k numbers)
+  pub put : Put t done t'
+  pub whole : filled_in form numbers ≡ done ++ filled_in (drop i form) left
 
-module _ (text : List ℕ) (numbers : List ℤ) {out : List ℕ} {at : ℕ} (room : Room out at (filled_in text numbers)) where
-  pub filling-none : Filling text numbers out at out at 0 0
-  filling-none =
-      record {
-        within = omega arith;
-        passed = omega arith;
-        done = [];
-        put = put-none (omega (arith, room.room));
-        whole = refl;
-      }
+module _ (form : List ℕ) (numbers : List (List ℕ)) {t : Text} (room : Room t (filled_in form numbers)) where
+  pub filling-none : Filling form numbers t t 0 numbers
+  filling-none = record { within = omega arith; done = []; put = put-none (omega (arith, room.room)); whole = refl }
 
-  module _ {after : List ℕ} {last i k : ℕ} (f : Filling text numbers out at after last i k) (h : i < length text) where
+  module _ {t' : Text} {i : ℕ} {left : List (List ℕ)} (f : Filling form numbers t t' i left) (h : i < length form) where
     abbrev byte : ℕ
-    byte = get_or text i 0
+    byte = get_or form i 0
 
-    abbrev piece : List ℕ
-    piece = piece_of byte (drop k numbers)
+    abbrev rest : List (List ℕ) → List ℕ
+    rest ns = filled_in (drop (i + 1) form) ns
 
-    abbrev rest : List ℕ
-    rest = filled_in (drop (i + 1) text) (left_by byte (drop k numbers))
-
-    opened : filled_in text numbers ≡ f.done ++ (piece ++ rest)
-    opened =
+    opened : {piece : List ℕ} {ns : List (List ℕ)} → Turn byte left piece ns → filled_in form numbers ≡ f.done ++ (piece ++ rest ns)
+    unfolding filled_in
+    opened e =
         f.whole
-        ∙ ap (λ l. f.done ++ filled_in l (drop k numbers)) (drop-cons text i 0 h ∙ ap (λ n. byte ∷ drop n text) (sym (add-one i)))
+        ∙ ap (λ l. f.done ++ filled_in l left) (drop-cons form i 0 h ∙ ap (λ n. byte ∷ drop n form) (sym (add-one i)))
+        ∙ ap₂ (λ l ns. f.done ++ (l ++ rest ns)) (sym e.0) (sym e.1)
 
-    pub piece-room : Room after last piece
-    piece-room = room-first piece rest (room-second f.done (piece ++ rest) (room_as opened room) f.put)
+    pub piece-room : {piece : List ℕ} {ns : List (List ℕ)} → Turn byte left piece ns → Room t' piece
+    piece-room {piece} {ns} e = room-first piece (rest ns) (room-second f.done (piece ++ rest ns) (room_as (opened e) room) f.put)
 
-    pub filling-more : {two : List ℕ} {end m : ℕ} → Put after last piece two end → m ≤ i + 1 → drop m numbers ≡ left_by byte (drop k numbers) → Filling text numbers out at two end (i + 1) m
-    filling-more q g e =
+    pub filling-more : {piece : List ℕ} {ns : List (List ℕ)} {t'' : Text} → Turn byte left piece ns → Put t' piece t'' → Filling form numbers t t'' (i + 1) ns
+    filling-more {piece} {ns} e q =
         record {
           within = omega arith;
-          passed = g;
           done = f.done ++ piece;
           put = put_then f.put q;
-          whole = opened ∙ sym (append_assoc f.done piece rest) ∙ ap (λ zs. (f.done ++ piece) ++ filled_in (drop (i + 1) text) zs) (sym e);
+          whole = opened e ∙ sym (append_assoc f.done piece (rest ns));
         }
 
-  pub filling-all : {after : List ℕ} {last i k : ℕ} → Filling text numbers out at after last i k → length text ≤ i → Put out at (filled_in text numbers) after last
-  filling-all {i = i} {k} f h =
-      put_as (sym (f.whole ∙ ap (λ l. f.done ++ filled_in l (drop k numbers)) (drop_of_length-le text h) ∙ append-nil f.done)) f.put
+  pub filling-all : {t' : Text} {i : ℕ} {left : List (List ℕ)} → Filling form numbers t t' i left → length form ≤ i → Put t (filled_in form numbers) t'
+  unfolding filled_in
+  filling-all {i = i} {left} f h =
+      put_as (sym (f.whole ∙ ap (λ l. f.done ++ filled_in l left) (drop_of_length-le form h) ∙ append-nil f.done)) f.put

@@ -1,43 +1,32 @@
--- The same text, and an integer's text as the code puts it together.
---     room_as, put_as                 room for the same text, and the same text put
---     negative-text, positive-text    an integer: its sign, and then its size
+-- What std writes of a number is its decimal text.
+--     decimal-is, signed-is    of a natural number and of an integer of 64 bits
+--     all_signed               of a list of such integers
 -- Assumes nothing.
-use Prim.Native.Nat.{ℕ, zero-le}
-use mathlib.Core.Path.{◌≡◌, refl, sym, ap, subst, ◌∙◌}
-use mathlib.Core.Bool.{true, false}
-use mathlib.Core.List.{List, [], ◌∷◌, ◌++◌}
-use borrow.Author.Tests.{le-ltb}
-use lib.Dec.{T}
-use lib.IntN.{ℤ, pos, negsuc, nat_abs}
-use lib.Signed.{lt_z}
-use mir.Syntax.{w64}
-use mir.Val.{SFits, to_z, of_z}
-use mir.Facts.{to_z-of_z}
-use Rattle.text.specs.Decimal.{decimal, signed}
-use Rattle.text.specs.Internal.{Room, Put}
+use Prim.Native.Nat.{ℕ, suc, ◌^◌, ◌<◌}
+use native.Mathlib.Omega.{arith}
+use mathlib.Core.Path.{◌≡◌, sym, ap}
+use mathlib.Core.List.{List, ◌∷◌, map}
+use lib.ListN.{length, get_or}
+use lib.IntN.{ℤ, pos, negsuc}
+use lib.Signed.{mag}
+use Rattle.std.specs.Fmt as std
+use Rattle.std.proofs.lemmas.Fmt.{AppendsLastDigit, decimal_from_appends, length-decimal-le_succ}
+use Rattle.arith.specs.Lists.{map_each, each_of}
+use Rattle.text.specs.Decimal.{digits_within, decimal, signed}
+use borrow.Author.Rules.{rules}
 
-pub room_as : {out : List ℕ} {at : ℕ} {s t : List ℕ} → s ≡ t → Room out at s → Room out at t
-room_as {out} {at} e r = subst (Room out at) e r
+appends : AppendsLastDigit digits_within
+unfolding digits_within
+appends = search rules
 
-pub put_as : {out : List ℕ} {at : ℕ} {s t after : List ℕ} {end : ℕ} → s ≡ t → Put out at s after end → Put out at t after end
-put_as {out} {at} {after = after} {end} e p = subst (λ l. Put out at l after end) e p
+pub decimal-is : (n : ℕ) → n < 2 ^ 64 → std.decimal n ≡ decimal n
+unfolding decimal
+decimal-is n h = sym (decimal_from_appends digits_within appends (suc n) n h (omega (arith, length-decimal-le_succ n h)))
 
-module _ (z : ℤ) (m : ℕ) (s : SFits w64 z) (e : m ≡ nat_abs (to_z w64 (of_z w64 z))) where
-  size : m ≡ nat_abs z
-  size = e ∙ ap nat_abs (to_z-of_z s)
+pub signed-is : (z : ℤ) → mag z < 2 ^ 63 → std.signed_decimal z ≡ signed z
+unfolding signed
+signed-is (pos n) h = decimal-is n (omega arith)
+signed-is (negsuc n) h = ap (λ l. 45 ∷ l) (decimal-is (suc n) (omega arith))
 
-  pub negative-text : lt_z (to_z w64 (of_z w64 z)) (pos 0) ≡ true → signed z ≡ (45 ∷ []) ++ decimal m
-  unfolding signed
-  negative-text t = go z (ap (λ y. lt_z y (pos 0)) (sym (to_z-of_z s)) ∙ t) ∙ ap (λ k. (45 ∷ []) ++ decimal k) (sym size)
-    where
-      go : (z : ℤ) → lt_z z (pos 0) ≡ true → signed z ≡ (45 ∷ []) ++ decimal (nat_abs z)
-      go (pos n) t = absurd (subst T (sym t ∙ le-ltb n 0 zero-le) tt)
-      go (negsuc n) t = refl
-
-  pub positive-text : lt_z (to_z w64 (of_z w64 z)) (pos 0) ≡ false → signed z ≡ decimal m
-  unfolding signed
-  positive-text t = go z (ap (λ y. lt_z y (pos 0)) (sym (to_z-of_z s)) ∙ t) ∙ ap decimal (sym size)
-    where
-      go : (z : ℤ) → lt_z z (pos 0) ≡ false → signed z ≡ decimal (nat_abs z)
-      go (pos n) t = refl
-      go (negsuc n) t = absurd (subst T t tt)
+pub all_signed : (zs : List ℤ) → ((k : ℕ) → k < length zs → mag (get_or zs k (pos 0)) < 2 ^ 63) → map std.signed_decimal zs ≡ map signed zs
+all_signed zs h = map_each std.signed_decimal signed zs (each_of (λ z. std.signed_decimal z ≡ signed z) (pos 0) zs (λ k l. signed-is (get_or zs k (pos 0)) (h k l)))

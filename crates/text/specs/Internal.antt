@@ -1,37 +1,41 @@
--- What the functions that append to a buffer compute: their contracts name these.
+-- What the functions that put text into a buffer compute: their contracts name these.
 -- Assumes nothing.
-use Rattle.std.specs.Prelude.{ℕ, ◌+◌, ◌≤◌, cond, ◌≡◌, List, [], ◌∷◌, ◌++◌, eqb, ℤ, length}
+use Rattle.std.specs.Prelude.{ℕ, ◌+◌, ◌≤◌, cond, ◌≡◌, List, [], ◌∷◌, ◌++◌, eqb, length}
+use Rattle.std.specs.Borrow.{MutBor}
 use Rattle.arith.specs.Lists.{placed}
-use Rattle.text.specs.Decimal.{decimal, signed}
+use Rattle.text.specs.declared.Text.{Text}
 
--- the buffer has room for a text at a position
-pub record Room (out : List ℕ) (at : ℕ) (text : List ℕ) : Type 0 where
-  pub room : at + length text ≤ length out
+-- no text yet, in a buffer that was lent
+pub record Begun (buffer : MutBor (List ℕ)) (t : Text) : Type 0 where
+  pub lent : t.buffer.ghost_name ≡ buffer.ghost_name
+  pub holds : t.buffer.now ≡ buffer.now
+  pub empty : t.length ≡ 0
 
--- a text was put at a position, and `end` is the position behind it
-pub record Put (out : List ℕ) (at : ℕ) (text after : List ℕ) (end : ℕ) : Type 0 where
-  pub fits : at + length text ≤ length out
-  pub buffer : after ≡ placed out at text
-  pub position : end ≡ at + length text
+-- the buffer has room for more behind its text
+pub record Room (t : Text) (more : List ℕ) : Type 0 where
+  pub room : t.length + length more ≤ length t.buffer.now
 
--- a number and the byte behind it
-abbrev pub natural_text : ℕ → ℕ → List ℕ
-natural_text n end = decimal n ++ (end ∷ [])
+-- more was put behind the text, in the same buffer
+pub record Put (t : Text) (more : List ℕ) (t' : Text) : Type 0 where
+  pub lent : t'.buffer.ghost_name ≡ t.buffer.ghost_name
+  pub fits : t.length + length more ≤ length t.buffer.now
+  pub buffer : t'.buffer.now ≡ placed t.buffer.now t.length more
+  pub length : t'.length ≡ t.length + length more
 
--- ---- a text with numbers in its gaps, which are question marks
+-- ---- a form, in which a question mark is a gap for a number's text
 
 abbrev pub gap : ℕ
 gap = 63
 
--- what a byte of the text becomes, and the numbers that are then left; where none is left, a question mark stays
-abbrev pub piece_of : ℕ → List ℤ → List ℕ
+-- what a byte of the form becomes, and the numbers that are then left; where none is left, a question mark stays
+abbrev pub piece_of : ℕ → List (List ℕ) → List ℕ
 piece_of b [] = b ∷ []
-piece_of b (z ∷ zs) = cond (eqb b gap) (signed z) (b ∷ [])
+piece_of b (n ∷ ns) = cond (eqb b gap) n (b ∷ [])
 
-abbrev pub left_by : ℕ → List ℤ → List ℤ
+abbrev pub left_by : ℕ → List (List ℕ) → List (List ℕ)
 left_by b [] = []
-left_by b (z ∷ zs) = cond (eqb b gap) zs (z ∷ zs)
+left_by b (n ∷ ns) = cond (eqb b gap) ns (n ∷ ns)
 
-abbrev pub filled_in : List ℕ → List ℤ → List ℕ
-filled_in [] zs = []
-filled_in (b ∷ bs) zs = piece_of b zs ++ filled_in bs (left_by b zs)
+unfoldable pub filled_in : List ℕ → List (List ℕ) → List ℕ
+filled_in [] ns = []
+filled_in (b ∷ bs) ns = piece_of b ns ++ filled_in bs (left_by b ns)

@@ -1,7 +1,7 @@
 -- Document 01, "Totals", with document 02's motion and marks: the sums over a particle set, and the operation's answer.
 -- Assumes nothing.
 use Rattle.std.specs.Prelude.{List, [], ◌∷◌, ℕ, ℤ, pos}
-use Rattle.refusal.specs.Refused.{Answer, gives, refused_by, and_then}
+use Rattle.refusal.specs.Refused.{Answer, gives, and_then}
 use Rattle.limits.specs.declared.Caller.{Caller}
 use Rattle.spline.specs.Spline.{D}
 use Rattle.particle.specs.declared.Particle.{Particle}
@@ -9,8 +9,6 @@ use Rattle.apic.specs.Step.{along_x, along_y}
 use Rattle.apic.specs.Totals.{total_mass, momentum, angular_momentum, motion, total_marks}
 use Rattle.particles.specs.Set.{set_answer}
 use Rattle.totals.specs.declared.Totals.{Totals}
-use Rattle.totals.specs.declared.Totalled.{Totalled}
-use Rattle.totals.specs.declared.Totalled.TheVariants as totalled
 
 abbrev pub totals_of : List Particle → Totals
 totals_of ps =
@@ -29,7 +27,3 @@ sums t = t.mass ∷ t.px ∷ t.py ∷ t.spin ∷ t.motion ∷ t.marks ∷ []
 
 abbrev pub totals_answer : Caller → ℕ → ℕ → List ℕ → Answer Totals
 totals_answer caller nx ny bytes = and_then (set_answer caller nx ny bytes) (λ ps. gives (totals_of ps))
-
-abbrev pub told_totalled : Totalled → Answer Totals
-told_totalled (totalled.Sums t) = gives t
-told_totalled (totalled.Refused e) = refused_by e

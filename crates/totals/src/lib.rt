@@ -1,13 +1,11 @@
-// The totals of a set, and the answer of Totals. What they are stands in specs/, what follows from it in proofs/.
+// The totals of a set. What they are stands in specs/, what follows from it in proofs/.
 #![tactic(auto)]
-
-use refusal::Refusal;
 
 // How many sums there are.
 pub const SUMS: usize = 6;
 
 // The sums of document 01's "Totals", with document 02's motion and marks.
-#[derive(Drop)]
+#[derive(Default, Drop)]
 pub struct Totals {
     pub mass: i64,
     pub px: i64,
@@ -15,10 +13,4 @@ pub struct Totals {
     pub spin: i64,
     pub motion: i64,
     pub marks: i64,
-}
-
-#[derive(Drop)]
-pub enum Totalled {
-    Sums(Totals),
-    Refused(Refusal),
 }

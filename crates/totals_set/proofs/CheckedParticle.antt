@@ -1,5 +1,5 @@
 -- One particle more: the walk's answer by the check's, and totals that stay small on the way.
---     particle-passes, refuses          the answer of the set's checks, with the totals
+--     particle-passes                   the answer of the set's checks, with the totals
 --     share-small                       a share of a particle within its limits is small
 --     small-plus, small-fits            sums of small totals are small, and fit
 -- Assumes nothing.
@@ -9,18 +9,15 @@ use native.Mathlib.Omega.{arith}
 use lib.IntN.{ℤ, pos, nat_abs, ◌+ℤ◌}
 use mir.Syntax.{w64}
 use mir.Val.{SFits}
-use Rattle.refusal.specs.Refused.{Answer, gives, refused, refused_by, and_then}
-use Rattle.refusal.specs.declared.Refusal.{Refusal}
-use Rattle.refusal.proofs.Answers.{same-result, not-result, not-refused, same-refusal}
+use Rattle.refusal.specs.Refused.{Answer, gives, refused, and_then}
+use Rattle.refusal.proofs.Answers.{same-result, not-result}
 use Rattle.limits.specs.Limits.{most_records, most_mass, most_position, most_velocity, most_affine}
 use Rattle.arith.specs.Size.{Bound, sizes, bounded, bound-pos, bound-fits, nat_abs-sum}
 use Rattle.particle.specs.declared.Particle.{Particle}
 use Rattle.particle.specs.Record.{Valid}
 use Rattle.particles.specs.declared.Entry.{Entry}
-use Rattle.particles.specs.declared.Entered.{Entered}
-use Rattle.particles.specs.declared.Entered.TheVariants as entered
 use Rattle.particles.specs.Set.{checked_particle}
-use Rattle.particles.specs.Walk.{followed, told_entered, check_particle}
+use Rattle.particles.specs.Walk.{followed, check_particle}
 use Rattle.particles.proofs.Checks.{checked-facts}
 use Rattle.totals.specs.declared.Totals.{Totals}
 use Rattle.totals_set.specs.declared.Progress.{Progress}
@@ -29,8 +26,8 @@ use Rattle.totals_share.specs.Fits.{SumFits}
 use Rattle.totals_set.specs.Walk.{most_share, SmallSums, advanced, next_answer}
 
 module _ (nx ny k : ℕ) (s : Progress) (p : Particle) where
-  pub particle-passes : (r : Entered) {e : Entry} {t : Totals} → told_entered r ≡ check_particle nx ny k s.entry p → r ≡ entered.Passed e → t ≡ plus s.totals (share p) → gives (record { entry = e; totals = t }) ≡ next_answer nx ny k s p
-  particle-passes r {e} {t} told is sums = go (checked_particle nx ny k s.entry.least s.entry.mass p) refl (sym told ∙ ap told_entered is)
+  pub particle-passes : {e : Entry} {t : Totals} → gives e ≡ check_particle nx ny k s.entry p → t ≡ plus s.totals (share p) → gives (record { entry = e; totals = t }) ≡ next_answer nx ny k s p
+  particle-passes {e} {t} answer sums = go (checked_particle nx ny k s.entry.least s.entry.mass p) refl (sym answer)
     where
       go : (a : Answer Particle) → checked_particle nx ny k s.entry.least s.entry.mass p ≡ a → and_then a (λ q. gives (followed s.entry q)) ≡ gives e → gives (record { entry = e; totals = t }) ≡ and_then a (λ q. gives (advanced s q))
       go (gives q) h g =
@@ -38,13 +35,6 @@ module _ (nx ny k : ℕ) (s : Progress) (p : Particle) where
           let all : t ≡ plus s.totals (share q) = sums ∙ ap (λ x. plus s.totals (share x)) same in
           λ i. gives (record { entry = sym (same-result g) i; totals = all i })
       go (refused n j) h g = not-result g
-
-  pub refuses : (r : Entered) (f : Refusal) → told_entered r ≡ check_particle nx ny k s.entry p → r ≡ entered.Refused f → refused_by f ≡ next_answer nx ny k s p
-  refuses r f told is = go (checked_particle nx ny k s.entry.least s.entry.mass p) (ap told_entered (sym is) ∙ told)
-    where
-      go : (a : Answer Particle) → refused_by {A = Entry} f ≡ and_then a (λ q. gives (followed s.entry q)) → refused_by f ≡ and_then a (λ q. gives (advanced s q))
-      go (gives q) h = not-refused (sym h)
-      go (refused n j) h = same-refusal h
 
 -- ---- small totals
 

@@ -1,4 +1,5 @@
 -- The loop of the walk over a set, turn by turn: what is left of the walk, added to what is done, is the whole.
+--     Nothing      the totals that the walk begins with
 --     Walking      the loop's invariant, with a law for each way on
 -- Assumes nothing.
 use mathlib.Core.Path.{◌≡◌, refl, sym, ap, ◌∙◌, subst}
@@ -9,15 +10,14 @@ use lib.IntN.{pos, +ℤ_idl, +ℤ_idr, +ℤ_assoc}
 use Rattle.refusal.specs.Refused.{Answer, gives, refused, refused_by, and_then}
 use Rattle.refusal.specs.declared.Refusal.{Refusal}
 use Rattle.particle.specs.declared.Particle.{Particle}
+use Rattle.particles.specs.declared.Entry.{Entry}
 use Rattle.particles.specs.Set.{set_of}
 use Rattle.particles.proofs.Turns.{Carried, folded, rest, Left, left-start, left-next, left-refused, left_end}
 use Rattle.totals.specs.declared.Totals.{Totals}
 use Rattle.totals_set.specs.declared.Progress.{Progress}
-use Rattle.totals_set.specs.declared.Next.{Next}
-use Rattle.totals_set.specs.declared.Next.TheVariants as next
 use Rattle.totals.specs.Totals.{totals_of}
 use Rattle.totals.specs.Share.{share, plus}
-use Rattle.totals_set.specs.Walk.{Small, SmallNext, advanced, told_next, next_record, walked}
+use Rattle.totals_set.specs.Walk.{Small, advanced, next_record, walked}
 
 abbrev walking : Carried Progress Totals
 walking =
@@ -40,8 +40,16 @@ plus_assoc a b c =
       marks = +ℤ_assoc a.marks b.marks c.marks i;
     }
 
-abbrev pub none : Totals
+abbrev none : Totals
 none = record { mass = pos 0; px = pos 0; py = pos 0; spin = pos 0; motion = pos 0; marks = pos 0 }
+
+-- each sum is 0, as the derived default says
+abbrev pub Nothing : Totals → Type 0
+Nothing t = (t.mass ≡ pos 0) × ((t.px ≡ pos 0) × ((t.py ≡ pos 0) × ((t.spin ≡ pos 0) × ((t.motion ≡ pos 0) × (t.marks ≡ pos 0)))))
+
+nothing-is : {t : Totals} → Nothing t → t ≡ none
+nothing-is (mass, (px, (py, (spin, (motion, marks))))) =
+    λ i. record { mass = mass i; px = px i; py = py i; spin = spin i; motion = motion i; marks = marks i }
 
 plus_none : (t : Totals) → plus t none ≡ t
 plus_none t =
@@ -72,8 +80,11 @@ unfolding folded
 sums-are s [] = sym (plus_none s.totals)
 sums-are s (p ∷ ps) = sums-are (advanced s p) ps ∙ plus_assoc s.totals (share p) (totals_of ps)
 
+abbrev start-of-check : Entry
+start-of-check = record { least = 0; mass = 0 }
+
 abbrev start-of-walk : Progress
-start-of-walk = record { entry = record { least = 0; mass = 0 }; totals = none }
+start-of-walk = record { entry = start-of-check; totals = none }
 
 pub record Walking (nx ny start : ℕ) (bytes : List ℕ) (count : ℕ) (s : Progress) (k : ℕ) : Type 0 where
   pub small : Small k s
@@ -89,27 +100,28 @@ module _ (nx ny start : ℕ) (bytes : List ℕ) (count : ℕ) where
       go (refused n j) = refl
 
 module _ {nx ny start : ℕ} {bytes : List ℕ} {count : ℕ} where
-  pub walking_start : Walking nx ny start bytes count start-of-walk 0
-  walking_start =
-      record {
+  pub walking_start : {t : Totals} → Nothing t → Walking nx ny start bytes count (record { entry = start-of-check; totals = t }) 0
+  walking_start z =
+      subst (λ t. Walking nx ny start bytes count (record { entry = start-of-check; totals = t }) 0) (sym (nothing-is z))
+      (record {
         small =
             record {
               light = lit≤ tt;
               sums = record { mass = lit≤ tt; px = lit≤ tt; py = lit≤ tt; spin = lit≤ tt; motion = lit≤ tt; marks = lit≤ tt };
             };
         left = left-start walking nx ny start bytes count (walked nx ny start bytes count) start-of-walk (walks-all nx ny start bytes count);
-      }
+      })
 
-  pub walking-next : {s : Progress} {k : ℕ} (r : Next) (t : Progress) → Walking nx ny start bytes count s k → k < count → r ≡ next.Passed t → told_next r ≡ next_record nx ny start bytes k s → SmallNext (k + 1) r → Walking nx ny start bytes count t (k + 1)
-  walking-next {s} {k} r t w h e answer small =
+  pub walking-next : {s : Progress} {k : ℕ} (t : Progress) → Walking nx ny start bytes count s k → k < count → gives t ≡ next_record nx ny start bytes k s → Small (k + 1) t → Walking nx ny start bytes count t (k + 1)
+  walking-next {s} {k} t w h answer small =
       record {
-        small = subst (SmallNext (k + 1)) e small;
-        left = left-next walking nx ny start bytes count (walked nx ny start bytes count) s k t w.left h (sym answer ∙ ap told_next e);
+        small = small;
+        left = left-next walking nx ny start bytes count (walked nx ny start bytes count) s k t w.left h (sym answer);
       }
 
-  pub walking-refused : {s : Progress} {k : ℕ} (r : Next) (f : Refusal) → Walking nx ny start bytes count s k → k < count → r ≡ next.Refused f → told_next r ≡ next_record nx ny start bytes k s → refused_by f ≡ walked nx ny start bytes count
-  walking-refused {s} {k} r f w h e answer =
-      left-refused walking nx ny start bytes count (walked nx ny start bytes count) s k w.left h (sym answer ∙ ap told_next e)
+  pub walking-refused : {s : Progress} {k : ℕ} (f : Refusal) → Walking nx ny start bytes count s k → k < count → refused_by f ≡ next_record nx ny start bytes k s → refused_by f ≡ walked nx ny start bytes count
+  walking-refused {s} {k} f w h answer =
+      left-refused walking nx ny start bytes count (walked nx ny start bytes count) s k w.left h (sym answer)
 
   pub walking-end : {s : Progress} {k : ℕ} → Walking nx ny start bytes count s k → count ≤ k → gives s.totals ≡ walked nx ny start bytes count
   walking-end {s} {k} w h = left_end walking nx ny start bytes count (walked nx ny start bytes count) s k w.left h

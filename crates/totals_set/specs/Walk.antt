@@ -1,16 +1,15 @@
 -- What the internal functions of the walk compute: their contracts name these, and no public operation's does.
 -- Assumes nothing.
-use Rattle.std.specs.Prelude.{List, ℕ, ◌*◌, ◌^◌, ◌≤◌, nat_abs}
+use Rattle.refusal.specs.declared.Refusal.{Refusal}
+use Rattle.std.specs.Prelude.{List, ℕ, ◌*◌, ◌^◌, ◌≤◌, nat_abs, Result, Ok, Err}
 use Rattle.limits.specs.Limits.{most_total_mass}
-use Rattle.refusal.specs.Refused.{Answer, gives, refused_by, and_then}
+use Rattle.refusal.specs.Refused.{Answer, gives, and_then}
 use Rattle.particle.specs.declared.Particle.{Particle}
 use Rattle.particle.specs.Record.{read_answer}
 use Rattle.particles.specs.Set.{checked_particle, record_at, set_of}
 use Rattle.particles.specs.Walk.{followed}
 use Rattle.totals.specs.declared.Totals.{Totals}
 use Rattle.totals_set.specs.declared.Progress.{Progress}
-use Rattle.totals_set.specs.declared.Next.{Next}
-use Rattle.totals_set.specs.declared.Next.TheVariants as next
 use Rattle.totals.specs.Totals.{totals_of}
 use Rattle.totals.specs.Share.{share, plus}
 
@@ -36,16 +35,12 @@ pub record Small (n : ℕ) (s : Progress) : Type 0 where
 abbrev pub advanced : Progress → Particle → Progress
 advanced s p = record { entry = followed s.entry p; totals = plus s.totals (share p) }
 
-abbrev pub told_next : Next → Answer Progress
-told_next (next.Passed s) = gives s
-told_next (next.Refused e) = refused_by e
-
 abbrev pub next_answer : ℕ → ℕ → ℕ → Progress → Particle → Answer Progress
 next_answer nx ny k s p = and_then (checked_particle nx ny k s.entry.least s.entry.mass p) (λ q. gives (advanced s q))
 
-abbrev pub SmallNext : ℕ → Next → Type 0
-SmallNext n (next.Passed s) = Small n s
-SmallNext n (next.Refused e) = Unit {0}
+abbrev pub SmallNext : ℕ → Result Progress Refusal → Type 0
+SmallNext n (Ok s) = Small n s
+SmallNext n (Err e) = Unit {0}
 
 -- the progress after the record with index k
 abbrev pub next_record : ℕ → ℕ → ℕ → List ℕ → ℕ → Progress → Answer Progress

@@ -5,12 +5,10 @@
 --     is_share         what the parts promise of the widened numbers is the share
 -- Assumes nothing.
 use mathlib.Core.Path.{◌≡◌, ap₂, ◌∙◌}
-use Prim.Native.Nat.{◌^◌, ◌<◌}
-use native.Mathlib.Omega.{arith}
+use Prim.Native.Nat.{◌^◌}
 use lib.IntN.{ℤ, pos, ◌+ℤ◌, ◌-ℤ◌, ◌*ℤ◌}
 use mir.Syntax.{w64}
 use mir.Val.{to_z, of_z}
-use mir.Facts.{to_z_pos}
 use Rattle.bits.proofs.Held.{Held, held}
 use Rattle.arith.specs.Size.{Bound, sizes, fits, bounded}
 use Rattle.arith.specs.Machine.{read_as}
@@ -131,7 +129,7 @@ module _ {p : Particle} {m x y vx vy bxx bxy byx byy : ℤ} (wide : Widened p m 
       tt in
       read_as w64 (e ∙ (λ i. wide.mass-held.is i *ℤ (straight i +ℤ turning i))) (bounded {n = 2 ^ 60} (search sizes depth 20) tt) tt
 
-  pub is_share : {px py spin straight turning motion : ℤ} → px ≡ back m *ℤ back vx → py ≡ back m *ℤ back vy → spin ≡ angular → straight ≡ straight-sum → turning ≡ turning-sum → motion ≡ back m *ℤ (back straight +ℤ back turning) → p.marks < 2 ^ 8 → record { mass = back m; px = back px; py = back py; spin = back spin; motion = back motion; marks = to_z w64 p.marks } ≡ share p
+  pub is_share : {px py spin straight turning motion marks : ℤ} → px ≡ back m *ℤ back vx → py ≡ back m *ℤ back vy → spin ≡ angular → straight ≡ straight-sum → turning ≡ turning-sum → motion ≡ back m *ℤ (back straight +ℤ back turning) → Held marks (pos p.marks) 65535 → record { mass = back m; px = back px; py = back py; spin = back spin; motion = back motion; marks = back marks } ≡ share p
   is_share along-x along-y turn straight-part turning-part whole marked =
       λ i.
       record {
@@ -140,5 +138,5 @@ module _ {p : Particle} {m x y vx vy bxx bxy byx byy : ℤ} (wide : Widened p m 
         py = linear-is wide.mass-held wide.vy-held along-y i;
         spin = spin-is turn i;
         motion = motion-is straight-part turning-part whole i;
-        marks = to_z_pos w64 {n = p.marks} (omega (arith, marked)) i;
+        marks = marked.is i;
       }

@@ -53,15 +53,15 @@ fn motion_share(m: i64, straight: i64, turning: i64) -> i64
 pub fn share_of(p: Particle) -> Totals
     ensures { result ≡ share p }
 {
-    let m = bits::unsigned(p.mass);
-    let x = bits::unsigned(p.x);
-    let y = bits::unsigned(p.y);
-    let vx = bits::signed(p.vx);
-    let vy = bits::signed(p.vy);
-    let bxx = bits::signed(p.bxx);
-    let bxy = bits::signed(p.bxy);
-    let byx = bits::signed(p.byx);
-    let byy = bits::signed(p.byy);
+    let m = i64::from(p.mass);
+    let x = i64::from(p.x);
+    let y = i64::from(p.y);
+    let vx = i64::from(p.vx);
+    let vy = i64::from(p.vy);
+    let bxx = i64::from(p.bxx);
+    let bxy = i64::from(p.bxy);
+    let byx = i64::from(p.byx);
+    let byy = i64::from(p.byy);
     Totals {
         mass: m,
         px: linear_share(m, vx),
@@ -72,7 +72,7 @@ pub fn share_of(p: Particle) -> Totals
             straight_part(spline::D as i64, vx, vy),
             turning_part(bxx, bxy, byx, byy),
         ),
-        marks: p.marks as i64,
+        marks: i64::from(p.marks),
     }
 }
 
@@ -91,7 +91,7 @@ pub fn plus_of(s: Totals, t: Totals) -> Totals
     }
 }
 
-// The sums, in the order of the report's line.
+// The sums, in the order of the report's line: by name, as a particle's numbers.
 pub fn sums_of(t: Totals) -> [i64; SUMS]
     ensures { result ≡ sums t }
 {

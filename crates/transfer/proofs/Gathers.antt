@@ -6,6 +6,7 @@
 --     stopped, set-accepted, gather-set, moved_on
 --                                       the operation, by those checks
 -- Assumes nothing.
+use Rattle.std.proofs.Common.{Result}
 use mathlib.Core.Path.{◌≡◌, refl, sym, ap, ◌∙◌, subst}
 use mathlib.Core.List.{List, map}
 use Prim.Native.Nat.{ℕ, ◌*◌, ◌/◌}
@@ -14,11 +15,12 @@ use lib.Dec.{eqb}
 use lib.ListN.{length, length-map}
 use lib.IntN.{ℤ}
 use borrow.Author.Tests.{eqb-true}
-use Rattle.refusal.specs.Refused.{Answer, gives, refused, and_then, done, told_of}
+use Rattle.refusal.specs.Refused.{Answer, gives, refused, and_then, done, told_of, told}
 use Rattle.refusal.proofs.Answers.{went_on, refused-leaves, done-leaves}
 use Rattle.arith.specs.Rounding.{rounded}
 use Rattle.limits.specs.declared.Caller.{Caller}
 use Rattle.limits.specs.declared.Caller.TheVariants.{Bench}
+use Rattle.refusal.specs.declared.Refusal.{Refusal}
 use Rattle.spline.specs.Spline.{axis_weight}
 use Rattle.spline.specs.Kernel.{weight_in, BuiltIn}
 use Rattle.spline.proofs.Spline.{built-in-weights}
@@ -32,8 +34,7 @@ use Rattle.unpacked.specs.Unpacked.{per_particle}
 use Rattle.unpacked.proofs.Laws.{length-unpacked}
 use Rattle.packing.specs.Packing.{Packable, Packs}
 use Rattle.unpacking.proofs.Sets.{count-in, particles_in-accepted, set-length}
-use Rattle.gathering.specs.declared.Gathered.{Gathered}
-use Rattle.gathering.specs.Gather.{gathered, told_gathered}
+use Rattle.gathering.specs.Gather.{gathered}
 use Rattle.gathering.proofs.Checks.{follow, checks-follow}
 use Rattle.gathering.proofs.Kept.{set-kept}
 use Rattle.settings.specs.Settings.{still}
@@ -52,24 +53,24 @@ move-ready {nx} {ny} {records} s =
     record { limits = accepted-set nx ny records s.set; x-velocities = s.x-velocities; y-velocities = s.y-velocities }
 
 -- with the weights of the spline's table
-pub built-in-moved : {nx ny : ℕ} {records : List ℕ} {table : List (List ℕ)} {d : ℕ} {ux uy target : List ℤ} {r : Gathered} → BuiltIn table d → MovedFrom (weight_in table) 0 nx ny records ux uy target r → MovedFrom axis_weight 0 nx ny records ux uy target r
+pub built-in-moved : {nx ny : ℕ} {records : List ℕ} {table : List (List ℕ)} {d : ℕ} {ux uy target : List ℤ} {r : Result Unit Refusal} → BuiltIn table d → MovedFrom (weight_in table) 0 nx ny records ux uy target r → MovedFrom axis_weight 0 nx ny records ux uy target r
 built-in-moved {nx} {ny} {records} {ux = ux} {uy = uy} {target = target} {r = r} t m =
     subst (λ w. MovedFrom w 0 nx ny records ux uy target r) (built-in-weights t) m
 
-module _ {nx ny : ℕ} {records : List ℕ} {ux uy target : List ℤ} {r : Gathered} (m : MovedFrom axis_weight 0 nx ny records ux uy target r) where
+module _ {nx ny : ℕ} {records : List ℕ} {ux uy target : List ℤ} {r : Result Unit Refusal} (m : MovedFrom axis_weight 0 nx ny records ux uy target r) where
   -- the particles after the gather
   abbrev after : List Particle
   after = map (gathered axis_weight nx ny ux uy) (particles_in records)
 
-  told : move_answer nx ny ux uy (particles_in records) ≡ follow (told_gathered r) (gives after)
-  told =
+  moved_answer : move_answer nx ny ux uy (particles_in records) ≡ follow (told r) (gives after)
+  moved_answer =
       checks-follow nx ny (gathered axis_weight nx ny ux uy) 0 (particles_in records) (gives after)
       ∙ ap (λ a. follow a (gives after)) (sym m.answer)
 
-  pub refused-moves : {n k : ℕ} → told_gathered r ≡ refused n k → Moves (move_answer nx ny ux uy (particles_in records)) records (refused n k) records
-  refused-moves h = refused-leaves (told ∙ ap (λ a. follow a (gives after)) h)
+  pub refused-moves : {n k : ℕ} → told r ≡ refused n k → Moves (move_answer nx ny ux uy (particles_in records)) records (refused n k) records
+  refused-moves h = refused-leaves (moved_answer ∙ ap (λ a. follow a (gives after)) h)
 
-  module _ (done-it : told_gathered r ≡ done) where
+  module _ (done-it : told r ≡ done) where
     pub pack-ready : SetLimits nx ny (particles_in records) → record_length * record_count records ≡ length records → Packable target × (length records ≡ record_length * (length target / per_particle))
     pack-ready limits whole =
         let kept = set-kept axis_weight nx ny ux uy 0 (particles_in records) limits (sym m.answer ∙ done-it) in (
@@ -88,7 +89,7 @@ module _ {nx ny : ℕ} {records : List ℕ} {ux uy target : List ℤ} {r : Gathe
 
     pub done-moves : {records' : List ℕ} → Packs target records records' → Moves (move_answer nx ny ux uy (particles_in records)) records done records'
     done-moves packed =
-        done-leaves (told ∙ ap (λ a. follow a (gives after)) done-it)
+        done-leaves (moved_answer ∙ ap (λ a. follow a (gives after)) done-it)
         (packed after (m.target_is done-it) (gather-labels rounded axis_weight nx ny (node nx ux) (node nx uy) (particles_in records)))
 
 -- ---- the checks before any particle moves

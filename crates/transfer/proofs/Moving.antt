@@ -3,6 +3,7 @@
 --     Walk, start, part-ready, part_room, turn, stop, last
 --                                   the loop over the parts of a set: k records are moved, and the answer is that of the others
 -- Assumes nothing.
+use Rattle.std.proofs.Common.{Result, Err}
 use mathlib.Core.Path.{◌≡◌, refl, sym, ap, ap₂, ◌∙◌, subst}
 use mathlib.Core.List.{List, ◌++◌, map, map-append, append_assoc}
 use Prim.Native.Nat.{ℕ, ◌+◌, ◌-◌, ◌*◌, ◌≤◌, zero-le}
@@ -10,7 +11,7 @@ use native.Mathlib.Omega.{arith}
 use lib.ListN.{length, take, drop, length-append, length-drop, take-append-drop}
 use lib.Seq.{length-take-le, take_all, take-add, take_at, drop-drop, drop-length}
 use lib.IntN.{ℤ}
-use Rattle.refusal.specs.Refused.{Answer, gives, refused}
+use Rattle.refusal.specs.Refused.{Answer, gives, refused, told}
 use Rattle.refusal.specs.declared.Refusal.{Refusal}
 use Rattle.refusal.proofs.Answers.{not-result}
 use Rattle.particle.specs.declared.Particle.{Particle}
@@ -22,9 +23,7 @@ use Rattle.unpacked.proofs.Laws.{unpacked-append, numbers-count}
 use Rattle.unpacking.proofs.Parts.{count-part, particles-part}
 use Rattle.unpacking.proofs.Sets.{count-in}
 use Rattle.scatter_core.proofs.Parts.{limits-part}
-use Rattle.gathering.specs.declared.Gathered.{Gathered}
-use Rattle.gathering.specs.declared.Gathered.TheVariants.{Refused}
-use Rattle.gathering.specs.Gather.{gathered, move_checks, answer_from, told_gathered, Gatherable, Gathers}
+use Rattle.gathering.specs.Gather.{gathered, move_checks, answer_from, Gatherable, Gathers}
 use Rattle.gathering.proofs.Checks.{follow, checks-follow, checks-append}
 use Rattle.gathering.proofs.Kept.{all_moved}
 use Rattle.transfer.specs.Internal.{MoveReady, PartRoom, MovedFrom}
@@ -47,7 +46,7 @@ module _ {nx ny : ℕ} (records : List ℕ) {ux uy source : List ℤ} (ready : M
         room = as_many h;
       }
 
-  pub moved-part : {w : ℕ → ℕ → ℤ} {first : ℕ} {held target : List ℤ} {r : Gathered} → length held ≡ per_particle * record_count records → Gathers w first nx ny source ux uy held target r → MovedFrom w first nx ny records ux uy target r
+  pub moved-part : {w : ℕ → ℕ → ℤ} {first : ℕ} {held target : List ℤ} {r : Result Unit Refusal} → length held ≡ per_particle * record_count records → Gathers w first nx ny source ux uy held target r → MovedFrom w first nx ny records ux uy target r
   moved-part room g =
       let f = g (particles_in records) source-holds in
       record { answer = f.answer; target_is = λ done. all_moved source-holds (as_many room) f done }
@@ -94,7 +93,7 @@ module _ {w : ℕ → ℕ → ℤ} {nx ny : ℕ} {records : List ℕ} {ux uy : L
           target-numbers = long ∙ ap (λ j. per_particle * j) count;
         }
 
-    module _ {ys : List ℤ} {r : Gathered} (p : MovedFrom w k nx ny these ux uy ys r) (kept : length ys ≡ length (take i (drop (per_particle * k) target))) where
+    module _ {ys : List ℤ} {r : Result Unit Refusal} (p : MovedFrom w k nx ny these ux uy ys r) (kept : length ys ≡ length (take i (drop (per_particle * k) target))) where
       abbrev after : List ℤ
       after = take (per_particle * k) target ++ (ys ++ drop i (drop (per_particle * k) target))
 
@@ -108,7 +107,7 @@ module _ {w : ℕ → ℕ → ℤ} {nx ny : ℕ} {records : List ℕ} {ux uy : L
           ∙ omega (arith, before.room)
 
       -- the answer of the part and of those behind it
-      from-here : answer_from w 0 nx ny ux uy (particles_in records) ≡ follow (told_gathered r) (answer_from w (k + n) nx ny ux uy (drop (k + n) (particles_in records)))
+      from-here : answer_from w 0 nx ny ux uy (particles_in records) ≡ follow (told r) (answer_from w (k + n) nx ny ux uy (drop (k + n) (particles_in records)))
       from-here =
           before.answer
           ∙ ap (answer_from w k nx ny ux uy) (sym (take-append-drop n rest))
@@ -122,14 +121,14 @@ module _ {w : ℕ → ℕ → ℤ} {nx ny : ℕ} {records : List ℕ} {ux uy : L
           many : length (take n (drop k (particles_in records))) ≡ n
           many = length-take-le n (drop k (particles_in records)) (omega (arith, length-drop k (particles_in records), count-in records))
 
-      pub stop : {f : Refusal} → r ≡ Refused f → MovedFrom w 0 nx ny records ux uy after (Refused f)
+      pub stop : {f : Refusal} → r ≡ Err f → MovedFrom w 0 nx ny records ux uy after (Err f)
       stop h =
           record {
-            answer = sym (from-here ∙ ap (λ a. follow (told_gathered a) (answer_from w (k + n) nx ny ux uy (drop (k + n) (particles_in records)))) h);
+            answer = sym (from-here ∙ ap (λ a. follow (told a) (answer_from w (k + n) nx ny ux uy (drop (k + n) (particles_in records)))) h);
             target_is = λ no. not-result no;
           }
 
-      pub turn : told_gathered r ≡ gives tt → Walk w nx ny records ux uy after (k + n)
+      pub turn : told r ≡ gives tt → Walk w nx ny records ux uy after (k + n)
       turn h =
           record {
             within = inside;
@@ -150,7 +149,7 @@ module _ {w : ℕ → ℕ → ℤ} {nx ny : ℕ} {records : List ℕ} {ux uy : L
       last h =
           record {
             answer =
-                sym (from-here ∙ ap (λ ps. follow (told_gathered r) (answer_from w (k + n) nx ny ux uy ps)) (ap (λ j. drop j (particles_in records)) all ∙ drop-length (particles_in records)) ∙ only (told_gathered r));
+                sym (from-here ∙ ap (λ ps. follow (told r) (answer_from w (k + n) nx ny ux uy ps)) (ap (λ j. drop j (particles_in records)) all ∙ drop-length (particles_in records)) ∙ only (told r));
             target_is = λ done.
                 let v = turn done in
                 sym (take_all (per_particle * (k + n)) after (omega (arith, v.room)))

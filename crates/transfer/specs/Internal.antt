@@ -1,7 +1,8 @@
 -- What the internal functions ask and leave: their contracts name these, and no public one does.
 -- Assumes nothing.
-use Rattle.std.specs.Prelude.{◌≡◌, List, map, ℕ, ◌*◌, ◌≤◌, length, ℤ}
-use Rattle.refusal.specs.Refused.{gives}
+use Rattle.refusal.specs.declared.Refusal.{Refusal}
+use Rattle.std.specs.Prelude.{◌≡◌, List, map, ℕ, ◌*◌, ◌≤◌, length, ℤ, Result}
+use Rattle.refusal.specs.Refused.{gives, told}
 use Rattle.limits.specs.Limits.{most_records}
 use Rattle.limits.specs.declared.Caller.TheVariants.{Bench}
 use Rattle.spline.specs.Kernel.{Kernel}
@@ -12,8 +13,7 @@ use Rattle.particles.specs.Set.{set_length, set_answer, record_count, particles_
 use Rattle.unpacked.specs.Unpacked.{per_particle, unpacked}
 use Rattle.scatter_block.specs.Lines.{Held}
 use Rattle.scatter_core.specs.Scatter.{Room}
-use Rattle.gathering.specs.declared.Gathered.{Gathered}
-use Rattle.gathering.specs.Gather.{gathered, answer_from, told_gathered, NodeVelocities}
+use Rattle.gathering.specs.Gather.{gathered, answer_from, NodeVelocities}
 
 -- a set is worked on in parts of so many records
 abbrev pub part : ℕ
@@ -82,6 +82,6 @@ pub record PartsMovable (nx ny : ℕ) (records : List ℕ) (source target ux uy 
   pub room : SetRoom records source target
 
 -- what is left of the records from record `first` on: where none is refused, the moved particles, and else anything
-pub record MovedFrom (w : ℕ → ℕ → ℤ) (first nx ny : ℕ) (records : List ℕ) (ux uy target : List ℤ) (r : Gathered) : Type 0 where
-  pub answer : told_gathered r ≡ answer_from w first nx ny ux uy (particles_in records)
-  pub target_is : told_gathered r ≡ gives tt → target ≡ unpacked (map (gathered w nx ny ux uy) (particles_in records))
+pub record MovedFrom (w : ℕ → ℕ → ℤ) (first nx ny : ℕ) (records : List ℕ) (ux uy target : List ℤ) (r : Result Unit Refusal) : Type 0 where
+  pub answer : told r ≡ answer_from w first nx ny ux uy (particles_in records)
+  pub target_is : told r ≡ gives tt → target ≡ unpacked (map (gathered w nx ny ux uy) (particles_in records))

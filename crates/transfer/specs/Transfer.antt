@@ -1,7 +1,7 @@
 -- Document 01, operations "Scatter" and "Gather": what each answers to a caller for any numbers and any buffers, and what the buffers
 -- hold afterwards. The sums are those of "The step", scatter and gather. Assumes nothing.
 use Rattle.std.specs.Prelude.{not, List, map, ℕ, ◌*◌, length, get_or, ℤ, pos, nat_abs}
-use Rattle.refusal.specs.Refused.{Answer, gives, refused_by, refuse_if, and_then, done, for_each, Leaves}
+use Rattle.refusal.specs.Refused.{Answer, gives, refuse_if, and_then, done, for_each, Leaves}
 use Rattle.limits.specs.Limits.{most_node_velocity}
 use Rattle.limits.specs.declared.Caller.{Caller}
 use Rattle.spline.specs.Spline.{axis_weight, D}
@@ -13,18 +13,6 @@ use Rattle.settings.specs.Settings.{still}
 use Rattle.entry.specs.declared.Buffers.TheVariants.{Two, Three}
 use Rattle.entry.specs.Entry.{entry_answer}
 use Rattle.gathering.specs.Gather.{gathered, move_checks}
-use Rattle.transfer.specs.declared.Scattered.{Scattered}
-use Rattle.transfer.specs.declared.Scattered.TheVariants as scattered
-use Rattle.transfer.specs.declared.Moved.{Moved}
-use Rattle.transfer.specs.declared.Moved.TheVariants as moved
-
-abbrev pub told_scattered : Scattered → Answer Unit
-told_scattered scattered.Done = done
-told_scattered (scattered.Refused e) = refused_by e
-
-abbrev pub told_moved : Moved → Answer Unit
-told_moved moved.Done = done
-told_moved (moved.Refused e) = refused_by e
 
 -- ---- scatter
 

@@ -1,8 +1,7 @@
-// The answers of scatter and gather. What they do stands in specs/, what follows from it in proofs/.
+// Scatter and gather: how a set is cut into parts. What the two do stands in specs/, what follows from it in proofs/.
 #![tactic(auto)]
 
 use particle::RECORD_LENGTH;
-use refusal::Refusal;
 use unpacked::NUMBERS;
 
 // A set is worked on in parts of so many records, which have so many bytes and numbers.
@@ -11,17 +10,3 @@ pub const PART: usize = 64;
 pub const PART_LENGTH: usize = PART * RECORD_LENGTH;
 
 pub const PART_NUMBERS: usize = PART * NUMBERS;
-
-// The answer of both scatters.
-#[derive(Drop)]
-pub enum Scattered {
-    Done,
-    Refused(Refusal),
-}
-
-// The answer of `gather`.
-#[derive(Drop)]
-pub enum Moved {
-    Done,
-    Refused(Refusal),
-}

@@ -8,7 +8,7 @@ ghost use Rattle.unpacked.specs.Unpacked.{per_particle};
 ghost use Rattle.scatter_particle.specs.Added.{Added};
 ghost use Rattle.transfer.specs.Internal.{PartReady, MoveReady, PartRoom, MovedFrom};
 
-use gathering::Gathered;
+use refusal::Refusal;
 
 // Adds the particles of some records of a set, which are unpacked into an array of as many numbers. Crate scatter calls it.
 pub fn scatter_part(
@@ -41,7 +41,7 @@ pub fn gather_part(
     table: &[[u16; 3]; 64],
     ux: &[i64],
     uy: &[i64],
-) -> Gathered
+) -> Result<(), Refusal>
     requires { MoveReady nx ny records.now ux.now uy.now × PartRoom first records.now from.old to.old }
     ensures { MovedFrom (weight_in table.now) first nx ny records.now ux.now uy.now to.new result }
 {

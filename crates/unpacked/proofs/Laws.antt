@@ -3,7 +3,7 @@
 --     numbers-at              the numbers of the k-th particle
 --     many, holds_at, some_at an array that holds a particle set: how many particles, and each of them
 --     mass-at, x-at, y-at     where such a particle has numbers that are not below zero
---     stored, take-stored, drop-stored
+--     stored, stored-placed, take-stored, drop-stored
 --                             nine numbers written behind those of k particles are one particle more, and what stands behind is kept
 -- Assumes nothing.
 use mathlib.Core.Path.{◌≡◌, refl, sym, ap, subst, ◌∙◌}
@@ -15,7 +15,7 @@ use native.Mathlib.Omega.{arith}
 use lib.ListN.{length, get_or, take, drop, set, length-append, get_or-append}
 use lib.Seq.{get_or-append-add, sets, sets-eq, length-sets, take_at, length-take-le, drop-set-lt}
 use lib.IntN.{ℤ, pos}
-use Rattle.arith.specs.Lists.{each_at}
+use Rattle.arith.specs.Lists.{each_at, placed}
 use Rattle.particle.specs.declared.Particle.{Particle}
 use Rattle.apic.specs.Limits.{ParticleLimits}
 use Rattle.unpacked.specs.Unpacked.{per_particle, numbers, unpacked, NumbersAt, Holds, UnpackedSet, NaturalAt, HoldsAt, ParticleAt}
@@ -123,6 +123,13 @@ stored-sets : (l : List ℤ) (i : ℕ) (q : Particle) → stored l i q ≡ sets 
 stored-sets l i q =
     λ t. set (set (set (set (set (set (set (set (set l i (pos q.mass)) (add-one i t) (pos q.x)) (add-two i t) (pos q.y))
     (add-three i t) q.vx) (add-four i t) q.vy) (add_five i t) q.bxx) (add_six i t) q.bxy) (add_seven i t) q.byx) (add_eight i t) q.byy
+
+-- they are a part put at its place
+pub stored-placed : (l : List ℤ) (i : ℕ) (q : Particle) → i + per_particle ≤ length l → stored l i q ≡ placed l i (numbers q)
+stored-placed l i q h =
+    stored-sets l i q
+    ∙ sets-eq (numbers q) l i h
+    ∙ append_assoc (take i l) (numbers q) (drop (i + length (numbers q)) l)
 
 pub length-stored : (l : List ℤ) (i : ℕ) (q : Particle) → length (stored l i q) ≡ length l
 length-stored l i q = ap length (stored-sets l i q) ∙ length-sets l i (numbers q)

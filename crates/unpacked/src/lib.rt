@@ -14,7 +14,7 @@ pub fn number_at(array: &[i16], at: usize) -> i64
     requires { at < length array.now }
     ensures { result ≡ get_or array.now at (pos 0) }
 {
-    array[at] as i64
+    i64::from(array[at])
 }
 
 // The number at a place where none is below zero: a mass or a coordinate. `particle_at`, and crates scatter_core and gather_core

@@ -11,44 +11,23 @@ ghost use Rattle.unpacking.specs.Internal.{Narrow};
 use particle::{Particle, RECORD_LENGTH};
 use unpacked::NUMBERS;
 
-// The numbers of a particle, in the order of its record's fields. `put_particle` calls it with a particle from a record.
-fn numbers_of(p: Particle) -> [i16; NUMBERS]
-    requires { Narrow p }
-    ensures { result ≡ numbers p }
-{
-    [
-        p.mass as i16,
-        p.x as i16,
-        p.y as i16,
-        p.vx,
-        p.vy,
-        p.bxx,
-        p.bxy,
-        p.byx,
-        p.byy,
-    ]
-}
-
-// Copies the numbers of one particle.
-fn store(source: &[i16], target: &mut [i16])
-    requires { (length source.now ≡ per_particle) × (length target.old ≡ per_particle) }
-    ensures { target.new ≡ source.now }
-{
-    let mut i = 0;
-    while i < NUMBERS {
-        target[i] = source[i];
-        i += 1;
-    }
-}
-
-// Stores the numbers of the particle with index k.
+// Stores the numbers of the particle with index k, in the order of its record's fields. `unpack_set` calls it with a particle
+// from a record.
 fn put_particle(p: Particle, k: usize, array: &mut [i16])
     requires { Narrow p × (per_particle * k + per_particle ≤ length array.old) }
     ensures { array.new ≡ placed array.old (per_particle * k) (numbers p) }
 {
     let at = NUMBERS * k;
-    let nine = numbers_of(p);
-    store(&nine, &mut array[at..at + NUMBERS]);
+    // One by one: `copy_from_slice` from an array takes twice the time.
+    array[at] = p.mass as i16;
+    array[at + 1] = p.x as i16;
+    array[at + 2] = p.y as i16;
+    array[at + 3] = p.vx;
+    array[at + 4] = p.vy;
+    array[at + 5] = p.bxx;
+    array[at + 6] = p.bxy;
+    array[at + 7] = p.byx;
+    array[at + 8] = p.byy;
 }
 
 // The particle in the record with index k. Crate packing calls it.
@@ -66,9 +45,7 @@ pub fn unpack_set(records: &[u8], array: &mut [i16])
     ensures { array.new ≡ unpacked (particles_in records.now) }
 {
     let count = records.len() / RECORD_LENGTH;
-    let mut k = 0;
-    while k < count {
+    for k in 0..count {
         put_particle(particle_in(records, k), k, array);
-        k += 1;
     }
 }

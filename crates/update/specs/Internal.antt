@@ -2,7 +2,7 @@
 -- Assumes nothing.
 use Rattle.std.specs.Prelude.{◌≡◌, Bool, List, map, ℕ, ◌*◌, ◌≤◌, ◌<◌, length, get_or, ℤ, pos, nat_abs}
 use Rattle.arith.specs.Sums.{up_to}
-use Rattle.limits.specs.Limits.{most_gravity}
+use Rattle.limits.specs.Limits.{most_node_mass, most_gravity}
 use Rattle.spline.specs.Kernel.{Spread}
 use Rattle.apic.specs.Limits.{SizeLimits}
 use Rattle.settings.specs.declared.Settings.{Settings}
@@ -13,6 +13,14 @@ use Rattle.update.specs.Update.{velocity_of, NodeLimits}
 -- the velocities of n nodes on one axis after gravity, from the masses and the momenta
 unfoldable pub accelerated : ℕ → ℕ → ℤ → List ℕ → List ℤ → List ℤ
 accelerated d n g mass momentum = map (λ k. velocity_of d g (get_or mass k 0) (get_or momentum k (pos 0))) (up_to n)
+
+-- masses and momenta on one axis of as many nodes; D, gravity and every node within their limits
+pub record AxisWithin (d : ℕ) (g : ℤ) (mass : List ℕ) (momentum : List ℤ) : Type 0 where
+  pub spread : Spread d
+  pub as_many : length mass ≡ length momentum
+  pub gravity : nat_abs g ≤ most_gravity
+  pub mass-most : (k : ℕ) → k < length momentum → get_or mass k 0 ≤ most_node_mass
+  pub massless : (k : ℕ) → k < length momentum → get_or mass k 0 ≡ 0 → get_or momentum k (pos 0) ≡ pos 0
 
 -- grids of n nodes; D, gravity and every node within their limits
 pub record NodesWithin (d n : ℕ) (gx gy : ℤ) (mass : List ℕ) (px py : List ℤ) : Type 0 where

@@ -5,14 +5,12 @@
 use Rattle.std.specs.Prelude.{◌≡◌, Bool, not, ◌&&◌, ◌||◌, List, map, ℕ, ◌*◌, ◌/◌, ◌%◌, ◌≤◌, ltb, eqb, length, get_or, ℤ, pos, nat_abs}
 use Rattle.arith.specs.Sums.{up_to}
 use Rattle.arith.specs.Rounding.{rounded}
-use Rattle.refusal.specs.Refused.{Answer, refused_by, refuse_if, and_then, done, for_each, Leaves}
+use Rattle.refusal.specs.Refused.{Answer, refuse_if, and_then, done, for_each, Leaves}
 use Rattle.limits.specs.Limits.{most_node_mass, most_node_velocity}
 use Rattle.limits.specs.declared.Caller.{Caller}
 use Rattle.spline.specs.Spline.{D}
 use Rattle.apic.specs.Step.{Axis, along_x, along_y, node_velocity, updated_velocity}
 use Rattle.settings.specs.declared.Settings.{Settings}
-use Rattle.update.specs.declared.Updated.{Updated}
-use Rattle.update.specs.declared.Updated.TheVariants.{Done, Refused}
 use Rattle.entry.specs.declared.Buffers.TheVariants.{Three}
 use Rattle.entry.specs.Checks.{both_within}
 use Rattle.entry.specs.Entry.{begin_answer}
@@ -57,10 +55,6 @@ velocities d s a mass momentum =
     map (λ k. updated_velocity rounded d s a (k % s.nx) (k / s.nx) (get_or mass k 0) (get_or momentum k (pos 0))) (up_to (s.nx * s.ny))
 
 -- ---- the operation
-
-abbrev pub told_update : Updated → Answer Unit
-told_update Done = done
-told_update (Refused e) = refused_by e
 
 -- 2; 1 for the grid buffers; 10; 18; 19; then for each node 11, 12
 unfoldable pub update_answer : Caller → Settings → List ℕ → List ℤ → List ℤ → Answer Unit

@@ -1,10 +1,2 @@
-// The answer of update. What it does stands in specs/, what follows from it in proofs/.
+// The answer of update: specs/ and proofs/ hold it, and there is no function.
 #![tactic(auto)]
-
-use refusal::Refusal;
-
-#[derive(Drop)]
-pub enum Updated {
-    Done,
-    Refused(Refusal),
-}

@@ -25,9 +25,7 @@ pub fn slow(drag: usize, velocities: &mut [i64])
     if drag == 0 {
         return;
     }
-    let mut k = 0;
-    while k < velocities.len() {
-        velocities[k] = slowed(drag, velocities[k]);
-        k += 1;
+    for u in velocities.iter_mut() {
+        *u = slowed(drag, *u);
     }
 }

@@ -1,4 +1,5 @@
 -- The three passes over the nodes: after gravity, drag and rim the velocities are the definition's.
+--     axis-within           one axis of nodes within their limits
 --     accelerated-length    as many velocities as nodes
 --     accelerated-within    no velocity after gravity is beyond its limit
 --     passes                drag and then the rim leave the definition's velocities
@@ -13,16 +14,27 @@ use Rattle.arith.specs.Size.{Bound}
 use Rattle.arith.specs.Rounding.{rounded}
 use Rattle.arith.specs.Sums.{Each, up_to, each-up_to}
 use Rattle.arith.specs.Lists.{length-tabulated, get_or-tabulated, map_each, get_or-mapped, each_of}
-use Rattle.limits.specs.Limits.{most_node_velocity}
+use Rattle.limits.specs.Limits.{most_node_mass, most_node_velocity, most_gravity}
+use Rattle.spline.specs.Kernel.{Spread}
 use Rattle.apic.specs.Step.{Axis, gravity, after_drag, updated_velocity}
 use Rattle.settings.specs.declared.Settings.{Settings}
 use Rattle.update.specs.Update.{velocity_of, velocities}
-use Rattle.update.specs.Internal.{accelerated}
+use Rattle.update.specs.Internal.{accelerated, AxisWithin}
 use Rattle.update_rim.specs.Internal.{cleared, held_at}
 
 module _ (d n : ℕ) (g : ℤ) (mass : List ℕ) (momentum : List ℤ) where
   abbrev at : ℕ → ℤ
   at k = velocity_of d g (get_or mass k 0) (get_or momentum k (pos 0))
+
+  pub axis-within : Spread d → length mass ≡ n → length momentum ≡ n → nat_abs g ≤ most_gravity → ((k : ℕ) → k < n → get_or mass k 0 ≤ most_node_mass) → ((k : ℕ) → k < n → get_or mass k 0 ≡ 0 → get_or momentum k (pos 0) ≡ pos 0) → AxisWithin d g mass momentum
+  axis-within spread mass-is momentum-is small most massless =
+      record {
+        spread = spread;
+        as_many = mass-is ∙ sym momentum-is;
+        gravity = small;
+        mass-most = λ k h. most k (subst (λ n. k < n) momentum-is h);
+        massless = λ k h. massless k (subst (λ n. k < n) momentum-is h);
+      }
 
   pub accelerated-length : length (accelerated d n g mass momentum) ≡ n
   unfolding accelerated

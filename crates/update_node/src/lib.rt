@@ -2,17 +2,17 @@
 #![tactic(auto)]
 
 ghost use Rattle.std.specs.Prelude.{◌≡◌, ◌≤◌, ◌^◌, pos, nat_abs};
+ghost use Rattle.refusal.specs.Refused.{told};
 ghost use Rattle.arith.specs.Rounding.{rounded};
 ghost use Rattle.limits.specs.Limits.{most_node_mass, most_gravity};
 ghost use Rattle.spline.specs.Kernel.{Spread};
-ghost use Rattle.update.specs.Update.{velocity_of, breaks_mass, check_node, told_update};
+ghost use Rattle.update.specs.Update.{velocity_of, breaks_mass, check_node};
 ghost use Rattle.update.specs.Internal.{is_calm};
 ghost use Rattle.update_node.specs.Internal.{Divisor};
 
 use entry::checks;
 use limits::{MOST_NODE_MASS, MOST_NODE_VELOCITY};
 use refusal::Refusal;
-use update::Updated;
 
 // 4·(131,072 − 4096): a momentum of at most so much per unit of mass keeps the velocity's limit under every gravity, for the
 // least D and so for every one.
@@ -36,11 +36,8 @@ fn rounded(momentum: i64, divisor: u64) -> i64
     requires { Divisor divisor }
     ensures { (result ≡ rounded momentum divisor) × (nat_abs result ≤ 2 ^ 62) }
 {
-    if momentum < 0 {
-        -(rounded_size((-1 - momentum) as u64 + 1, divisor) as i64)
-    } else {
-        rounded_size(momentum as u64, divisor) as i64
-    }
+    let size = rounded_size(momentum.unsigned_abs(), divisor) as i64;
+    if momentum < 0 { -size } else { size }
 }
 
 // A node's velocity on one axis. `check` and crate update_grid call it.
@@ -58,29 +55,23 @@ pub fn velocity(d: u64, gravity: i64, mass: u64, momentum: i64) -> i64
 fn breaks_mass(mass: u64, px: i64, py: i64) -> bool
     ensures { result ≡ breaks_mass mass px py }
 {
-    if mass > MOST_NODE_MASS {
-        return true;
-    }
-    if mass != 0 {
-        return false;
-    }
-    px != 0 || py != 0
+    mass > MOST_NODE_MASS || (mass == 0 && (px != 0 || py != 0))
 }
 
 // The limits of node k. Crate update_grid calls it.
-pub fn check(d: u64, k: usize, gx: i64, gy: i64, mass: u64, px: i64, py: i64) -> Updated
+pub fn check(d: u64, k: usize, gx: i64, gy: i64, mass: u64, px: i64, py: i64) -> Result<(), Refusal>
     requires { Spread d × (nat_abs gx ≤ most_gravity) × (nat_abs gy ≤ most_gravity) }
-    ensures { told_update result ≡ check_node d gx gy k mass px py }
+    ensures { told result ≡ check_node d gx gy k mass px py }
 {
     if breaks_mass(mass, px, py) {
-        return Updated::Refused(Refusal::NodeMass(k));
+        return Err(Refusal::NodeMass(k));
     }
     let vx = velocity(d, gx, mass, px);
     let vy = velocity(d, gy, mass, py);
     if !checks::both_within(vx, vy, MOST_NODE_VELOCITY) {
-        return Updated::Refused(Refusal::NodeVelocity(k));
+        return Err(Refusal::NodeVelocity(k));
     }
-    Updated::Done
+    Ok(())
 }
 
 // Whether a node surely breaks no limit, without a division. Crate update_grid calls it.

@@ -12,7 +12,7 @@ fn clear_part(velocities: &mut [i64], from: usize, count: usize)
     requires { from + count ≤ length velocities.old }
     ensures { velocities.new ≡ cleared (in_part from count) velocities.old }
 {
-    grid_cells::clear(&mut velocities[from..from + count]);
+    velocities[from..from + count].fill(0);
 }
 
 // The band's columns. `hold_band` and `hold` call it.
@@ -20,12 +20,10 @@ fn hold_columns(nx: usize, ny: usize, width: usize, velocities: &mut [i64])
     requires { BandRoom nx ny width velocities.old }
     ensures { velocities.new ≡ cleared (in_columns width nx) velocities.old }
 {
-    let mut j = 0;
-    while j < ny {
+    for j in 0..ny {
         let at = j * nx;
         clear_part(velocities, at, width);
         clear_part(velocities, at + nx - width, width);
-        j += 1;
     }
 }
 

@@ -1,17 +1,16 @@
 -- A number cut to what there is room for: it passes the same tests against any limit below that, and within one it is the number itself.
 --     same-most, same-least, kept      a natural number
 --     same-within, within-kept         an integer
---     too-low, too-high, between-both  what a test in the code says of it
 --     field                            the integer in a field of 16 bits
 -- Assumes nothing.
-use mathlib.Core.Path.{◌≡◌, refl, sym, ap, ap₂, subst, ◌∙◌}
+use mathlib.Core.Path.{◌≡◌, refl, sym, ap, ap₂, ◌∙◌}
 use mathlib.Core.Bool.{Bool, true, false, cond, ◌&&◌}
 use Prim.Native.Nat.{ℕ, zero, suc, ◌^◌, ◌≤◌, ◌<◌, zero-le}
 use native.Mathlib.Omega.{arith}
-use borrow.Author.Tests.{ltb-true, ltb-false, lt-leb, le-leb}
-use lib.Dec.{T, ltb, leb}
+use borrow.Author.Tests.{ltb-true, lt-leb, le-leb}
+use lib.Dec.{ltb, leb}
 use lib.IntN.{ℤ, pos, negsuc, nat_abs}
-use lib.Signed.{mag, lt_z}
+use lib.Signed.{mag}
 use mir.Syntax.{w16, w64}
 use mir.Val.{SFits, to_z, of_z, hbits}
 use mir.Facts.{to_z-of_z}
@@ -58,20 +57,6 @@ module _ (z : ℤ) where
       go : (y : ℤ) → nat_abs y ≤ k → mag y ≤ 32767
       go (pos n) h = omega arith
       go (negsuc n) h = omega arith
-
--- ---- the tests of the code
-
-pub too-low : (z : ℤ) → lt_z z (negsuc 32767) ≡ true → negsuc 32767 ≡ clamped z
-too-low (pos n) e = absurd (subst T (sym e) tt)
-too-low (negsuc n) e = rw e
-
-pub too-high : (z : ℤ) → lt_z (pos 32767) z ≡ true → pos 32767 ≡ clamped z
-too-high (pos n) e = rw e
-too-high (negsuc n) e = absurd (subst T (sym e) tt)
-
-pub between-both : (z : ℤ) → lt_z z (negsuc 32767) ≡ false → lt_z (pos 32767) z ≡ false → mag z ≤ 32767
-between-both (pos n) l h = ltb-false 32767 n h
-between-both (negsuc n) l h = ltb-false 32767 n l
 
 -- what `narrow::signed` answers for a number that the machine holds, put into a field
 pub field : {y z : ℤ} → mag y < 2 ^ hbits w16 → y ≡ clamped (to_z w64 (of_z w64 z)) → SFits w64 z → to_z w16 (of_z w16 y) ≡ clamped z

@@ -75,14 +75,14 @@ pub fn header(
     }
 }
 
-// Three weights.
+// Three weights, by name, as the values of a header: `From` would not say which order.
 pub fn of_weights(w: AxisWeights) -> [i64; 3]
     ensures { result ≡ weight_values (three_of w) }
 {
-    [w.lower as i64, w.nearest as i64, w.upper as i64]
+    [i64::from(w.lower), i64::from(w.nearest), i64::from(w.upper)]
 }
 
-// The values of an accepted header. `gondwize_read_file` calls it.
+// The values of an accepted header. `read_file` of crate by_caller calls it.
 pub fn of_header(h: Header) -> [i64; SETTINGS]
     requires { Narrow h }
     ensures { result ≡ settings h }
@@ -90,8 +90,8 @@ pub fn of_header(h: Header) -> [i64; SETTINGS]
     [
         h.nx as i64,
         h.ny as i64,
-        h.gx as i64,
-        h.gy as i64,
+        i64::from(h.gx),
+        i64::from(h.gy),
         h.count as i64,
         h.steps as i64,
         h.kind as i64,

@@ -1,20 +1,23 @@
 -- `adding_grid::add_grids` meets its contract. Assumes nothing.
 use Rattle.std.proofs.Common.{sym}
+use Rattle.std.proofs.lemmas.Result.{err_from_is_err_and}
 use Rattle.adding.proofs.Adding.{mass-room, x-room, y-room, grids-stopped, grids-added}
 use Rattle.adding_grid.proofs.add_grids.Goals as goal
 
-pub returns-in-Refused : goal.returns-in-Refused
-returns-in-Refused c = grids-stopped c.requires (sym c.in-Refused.ensures)
+pub returns-in_err-check_nodes : goal.returns-in_err-check_nodes
+returns-in_err-check_nodes c =
+    let p = err_from_is_err_and c.from_residual.result c.from_residual.ensures.1 in
+    rw (p.1, p.2) (grids-stopped c.requires (sym c.in_err-check_nodes.ensures))
 
-pub add_masses-requires : goal.add_masses-requires
-add_masses-requires c = mass-room c.requires (sym c.in-Done.ensures)
+pub add_cells-requires : goal.add_cells-requires
+add_cells-requires c = mass-room c.requires (sym c.in_ok-check_nodes.ensures)
 
-pub add_momenta-requires : goal.add_momenta-requires
-add_momenta-requires c = x-room c.requires (sym c.in-Done.ensures)
+pub add_cells-requires-2 : goal.add_cells-requires-2
+add_cells-requires-2 c = x-room c.requires (sym c.in_ok-check_nodes.ensures)
 
-pub add_momenta-requires-2 : goal.add_momenta-requires-2
-add_momenta-requires-2 c = y-room c.requires (sym c.in-Done.ensures)
+pub add_cells-requires-3 : goal.add_cells-requires-3
+add_cells-requires-3 c = y-room c.requires (sym c.in_ok-check_nodes.ensures)
 
 pub returns : goal.returns
 returns c =
-    grids-added c.requires (sym c.in-Done.ensures) c.add_masses.ensures c.add_momenta.ensures c.add_momenta-2.ensures
+    grids-added c.requires (sym c.in_ok-check_nodes.ensures) c.add_cells.ensures c.add_cells-2.ensures c.add_cells-3.ensures

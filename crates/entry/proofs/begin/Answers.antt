@@ -1,6 +1,7 @@
 -- `entry::begin`: the checks in their order. Assumes nothing.
 use Rattle.std.proofs.Common.{◌≡◌, ℕ, ◌*◌, ◌/◌, ◌<◌, ◌≤◌, Bool, true, false, ltb, sym, ap, ◌∙◌, subst}
 use borrow.Author.Tests.{le-ltb}
+use Rattle.std.proofs.lemmas.Result.{err_from_is_err_and}
 use Rattle.limits.specs.declared.Caller.{Caller}
 use Rattle.limits.specs.Limits.{most_side_of, most_records_of}
 use Rattle.particle.specs.Layout.{record_length}
@@ -52,16 +53,17 @@ returns-then-most_records-bytes c =
     (sym c.are_long.ensures ∙ c.if-not-are_long.false)
     (subst (λ m. m < a.bytes / record_length) c.most_records.ensures c.if-most_records-bytes.true))
 
-pub returns-in-Refused : goal.returns-in-Refused
-returns-in-Refused c =
+pub returns-in_err-check_forces : goal.returns-in_err-check_forces
+returns-in_err-check_forces c =
     let a = c.args in
-    sym (bad-forces a.caller a.settings a.buffers a.steps a.bytes
+    let p = err_from_is_err_and c.from_residual.result c.from_residual.ensures.1 in
+    rw (p.1, p.2) (sym (bad-forces a.caller a.settings a.buffers a.steps a.bytes
     (past a.caller a.settings a.buffers a.steps a.bytes
     (sized a.caller a.settings.nx a.settings.ny c.most_side.ensures c.size_is_valid.ensures c.if-not-size_is_valid.false)
     (sym c.length_is_valid.ensures ∙ c.if-not-length_is_valid.false)
     (sym c.are_long.ensures ∙ c.if-not-are_long.false)
     (few a.caller a.bytes c.most_records.ensures c.if-most_records-bytes.false))
-    (sym c.in-Refused.ensures))
+    (sym c.in_err-check_forces.ensures)))
 
 pub returns-then-steps-gt-MOST_STEPS : goal.returns-then-steps-gt-MOST_STEPS
 returns-then-steps-gt-MOST_STEPS c =
@@ -72,7 +74,7 @@ returns-then-steps-gt-MOST_STEPS c =
     (sym c.length_is_valid.ensures ∙ c.if-not-length_is_valid.false)
     (sym c.are_long.ensures ∙ c.if-not-are_long.false)
     (few a.caller a.bytes c.most_records.ensures c.if-most_records-bytes.false))
-    (sym c.in-Done.ensures) c.if-steps-gt-MOST_STEPS.true)
+    (sym c.in_ok-check_forces.ensures) c.if-steps-gt-MOST_STEPS.true)
 
 pub returns : goal.returns
 returns c =
@@ -83,4 +85,4 @@ returns c =
     (sym c.length_is_valid.ensures ∙ c.if-not-length_is_valid.false)
     (sym c.are_long.ensures ∙ c.if-not-are_long.false)
     (few a.caller a.bytes c.most_records.ensures c.if-most_records-bytes.false))
-    (sym c.in-Done.ensures) c.if-steps-gt-MOST_STEPS.false)
+    (sym c.in_ok-check_forces.ensures) c.if-steps-gt-MOST_STEPS.false)

@@ -1,6 +1,7 @@
 -- The length, and then the set. Assumes nothing.
 use native.Mathlib.Omega.{arith}
 use mathlib.Core.Path.{◌≡◌, sym}
+use Rattle.std.proofs.lemmas.Result.{err_from_is_err_and}
 use Rattle.refusal.specs.Refused.{gives}
 use Rattle.limits.specs.declared.Caller.TheVariants.{Bench}
 use Rattle.particles.proofs.Checks.{size-limits}
@@ -25,8 +26,10 @@ returns-then-bytes-count c = sym (wrong-records c.args.h c.args.bytes.now c.if-b
 pub check-requires : goal.check-requires
 check-requires c = let v = accepted c.args.h c.requires in (size-limits Bench _ _ v.size, v.count-to, omega arith)
 
-pub returns-in-Records : goal.returns-in-Records
-returns-in-Records c = sym (records-accepted c.args.h c.args.bytes.now c.if-bytes-count.false (sym c.in-Records.ensures))
+pub returns-in_err-check : goal.returns-in_err-check
+returns-in_err-check c =
+    let p = err_from_is_err_and c.from_residual.result c.from_residual.ensures.1 in
+    rw (p.1, p.2) (sym (records-refused c.args.h c.args.bytes.now c.if-bytes-count.false (sym c.in_err-check.ensures)))
 
-pub returns-in-Refused : goal.returns-in-Refused
-returns-in-Refused c = sym (records-refused c.args.h c.args.bytes.now c.if-bytes-count.false (sym c.in-Refused.ensures))
+pub returns : goal.returns
+returns c = sym (records-accepted c.args.h c.args.bytes.now c.if-bytes-count.false (sym c.in_ok-check.ensures))

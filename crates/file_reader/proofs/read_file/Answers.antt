@@ -8,4 +8,4 @@ use Rattle.file_reader.proofs.read_file.Goals as goal
 pub check_records-requires : goal.check_records-requires
 check_records-requires c =
     let a = c.args in
-    passes Bench _ _ (bench-valid a.caller _ (header-held a.caller a.bytes.now (sym c.in-Accepted.ensures)).valid)
+    passes Bench _ _ (bench-valid a.caller _ (header-held a.caller a.bytes.now (sym c.in_ok-h.ensures)).valid)

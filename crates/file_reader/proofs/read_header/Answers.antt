@@ -3,6 +3,7 @@ use Prim.Native.Nat.{ℕ}
 use mathlib.Core.Path.{◌≡◌, sym, ap, ◌∙◌}
 use mathlib.Core.List.{List}
 use lib.ListN.{take}
+use Rattle.std.proofs.lemmas.Result.{err_from_is_err_and}
 use Rattle.refusal.specs.Refused.{Answer, gives}
 use Rattle.limits.specs.declared.Caller.{Caller}
 use Rattle.bath_file.specs.declared.Header.{Header}
@@ -21,14 +22,15 @@ returns-then-bytes-lt-HEADER_LENGTH c = sym (too_short _ c.args.bytes.now c.if-b
 pub returns-then-not-spare_is_zero : goal.returns-then-not-spare_is_zero
 returns-then-not-spare_is_zero c =
     let b = c.args.bytes.now in
-    sym (header-spare _ b c.if-bytes-lt-HEADER_LENGTH.false (values c.args.caller b c.unpack.ensures c.in-Accepted.ensures) (sym c.if-not-spare_is_zero.ensures))
+    sym (header-spare _ b c.if-bytes-lt-HEADER_LENGTH.false (values c.args.caller b c.unpack.ensures c.in_ok-h.ensures) (sym c.if-not-spare_is_zero.ensures))
 
-pub returns-in-Refused : goal.returns-in-Refused
-returns-in-Refused c =
+pub returns-in_err-h : goal.returns-in_err-h
+returns-in_err-h c =
     let b = c.args.bytes.now in
-    sym (header_refused _ b c.if-bytes-lt-HEADER_LENGTH.false (values c.args.caller b c.unpack.ensures c.in-Refused.ensures))
+    let p = err_from_is_err_and c.from_residual.result c.from_residual.ensures.1 in
+    rw (p.1, p.2) (sym (header_refused _ b c.if-bytes-lt-HEADER_LENGTH.false (values c.args.caller b c.unpack.ensures c.in_err-h.ensures)))
 
-pub returns-else-not-spare_is_zero : goal.returns-else-not-spare_is_zero
-returns-else-not-spare_is_zero c =
+pub returns : goal.returns
+returns c =
     let b = c.args.bytes.now in
-    sym (header-accepted _ b c.if-bytes-lt-HEADER_LENGTH.false (values c.args.caller b c.unpack.ensures c.in-Accepted.ensures) (sym c.if-not-spare_is_zero.ensures))
+    sym (header-accepted _ b c.if-bytes-lt-HEADER_LENGTH.false (values c.args.caller b c.unpack.ensures c.in_ok-h.ensures) (sym c.if-not-spare_is_zero.ensures))

@@ -22,13 +22,13 @@ returns c =
     let second = c.word-second.ensures ∙ word_of l long small 3 0 refl in
     λ i.
     record {
-      nx = top_read n 24 58 6 first c.low.ensures (lit≤ tt) refl i;
-      ny = field-read n 24 52 6 first c.low-2.ensures (lit≤ tt) (lit≤ tt) i;
+      nx = (c.from.ensures ∙ top_read n 24 58 6 first c.low.ensures (lit≤ tt) refl) i;
+      ny = (c.from-2.ensures ∙ field-read n 24 52 6 first c.low-2.ensures (lit≤ tt) (lit≤ tt)) i;
       gx = signed_part 8192 c.signed_low.type_inv c.signed_low.ensures (field-read n 24 38 14 first c.low-3.ensures (lit≤ tt) (lit≤ tt)) i;
       gy = signed_part 8192 c.signed_low-2.type_inv c.signed_low-2.ensures (field-read n 24 24 14 first c.low-4.ensures (lit≤ tt) (lit≤ tt)) i;
-      count = field-read n 24 11 13 first c.low-5.ensures (lit≤ tt) (lit≤ tt) i;
-      steps = field-read n 0 21 14 second c.low-6.ensures (lit≤ tt) (lit≤ tt) i;
-      kind = field-read n 0 14 2 second c.low-7.ensures (lit≤ tt) (lit≤ tt) i;
-      width = field-read n 0 12 2 second c.low-8.ensures (lit≤ tt) (lit≤ tt) i;
-      drag = field-read n 0 4 8 second c.low-9.ensures (lit≤ tt) (lit≤ tt) i;
+      count = (c.from-3.ensures ∙ field-read n 24 11 13 first c.low-5.ensures (lit≤ tt) (lit≤ tt)) i;
+      steps = (c.from-4.ensures ∙ field-read n 0 21 14 second c.low-6.ensures (lit≤ tt) (lit≤ tt)) i;
+      kind = (c.from-5.ensures ∙ field-read n 0 14 2 second c.low-7.ensures (lit≤ tt) (lit≤ tt)) i;
+      width = (c.from-6.ensures ∙ field-read n 0 12 2 second c.low-8.ensures (lit≤ tt) (lit≤ tt)) i;
+      drag = (c.from-7.ensures ∙ field-read n 0 4 8 second c.low-9.ensures (lit≤ tt) (lit≤ tt)) i;
     }

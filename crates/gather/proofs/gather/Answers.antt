@@ -7,11 +7,11 @@ use Rattle.gather.proofs.gather.Goals as goal
 pub gather_set-requires : goal.gather_set-requires
 gather_set-requires c =
     let s = c.args in
-    let a = went_on _ _ (sym c.in-Done.ensures) in
+    let a = went_on _ _ (sym c.in_ok-check_gather.ensures) in
     gather-set s.caller s.nx s.ny s.records.now s.ux.now s.uy.now a.1
 
-pub returns-in-Done : goal.returns-in-Done
-returns-in-Done c =
+pub returns : goal.returns
+returns c =
     let s = c.args in
-    let a = went_on _ _ (sym c.in-Done.ensures) in
+    let a = went_on _ _ (sym c.in_ok-check_gather.ensures) in
     moved_on s.caller s.nx s.ny s.records.now s.ux.now s.uy.now a.1 c.gather_set.ensures

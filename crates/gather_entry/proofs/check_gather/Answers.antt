@@ -1,5 +1,6 @@
 -- `gather_entry::check_gather` meets its contract. Assumes nothing.
-use Rattle.std.proofs.Common.{◌≡◌, refl, sym, ap, ◌∙◌, List, ℕ, length, ℤ}
+use Rattle.std.proofs.Common.{◌≡◌, sym, ap, ◌∙◌, List, ℕ, length, ℤ}
+use Rattle.std.proofs.lemmas.Result.{err_from_is_err_and}
 use Rattle.refusal.specs.Refused.{Answer, gives, and_then, told_of}
 use Rattle.refusal.proofs.Answers.{went_on}
 use Rattle.limits.specs.declared.Caller.{Caller}
@@ -19,17 +20,19 @@ told caller nx ny records ux uy e f =
 pub check_velocities-requires : goal.check_velocities-requires
 check_velocities-requires c =
     let s = c.args in
-    let a = went_on _ _ (told s.caller s.nx s.ny s.records.now s.ux.now s.uy.now c.still-settings.ensures c.in-Records.ensures) in
-    (refl, same_count s.caller s.nx s.ny s.records.now s.ux.now s.uy.now a.1)
+    let a = went_on _ _ (told s.caller s.nx s.ny s.records.now s.ux.now s.uy.now c.still-settings.ensures c.in_ok-check.ensures) in
+    same_count s.caller s.nx s.ny s.records.now s.ux.now s.uy.now a.1
 
-pub returns-in-Refused : goal.returns-in-Refused
-returns-in-Refused c =
+pub returns-in_err-check : goal.returns-in_err-check
+returns-in_err-check c =
     let s = c.args in
-    sym (ap told_of (bad-entry s.caller s.nx s.ny s.records.now s.ux.now s.uy.now
-    (kept-refusal _ length (told s.caller s.nx s.ny s.records.now s.ux.now s.uy.now c.still-settings.ensures c.in-Refused.ensures))))
+    let p = err_from_is_err_and c.from_residual.result c.from_residual.ensures.1 in
+    rw (p.1, p.2)
+    (sym (ap told_of (bad-entry s.caller s.nx s.ny s.records.now s.ux.now s.uy.now
+    (kept-refusal _ length (told s.caller s.nx s.ny s.records.now s.ux.now s.uy.now c.still-settings.ensures c.in_err-check.ensures)))))
 
-pub returns-in-Records : goal.returns-in-Records
-returns-in-Records c =
+pub returns : goal.returns
+returns c =
     let s = c.args in
-    let a = went_on _ _ (told s.caller s.nx s.ny s.records.now s.ux.now s.uy.now c.still-settings.ensures c.in-Records.ensures) in
+    let a = went_on _ _ (told s.caller s.nx s.ny s.records.now s.ux.now s.uy.now c.still-settings.ensures c.in_ok-check.ensures) in
     c.check_velocities.ensures ∙ sym (by-velocities s.caller s.nx s.ny s.records.now s.ux.now s.uy.now a.1)

@@ -1,7 +1,6 @@
 -- The loop of `gather_entry::check_velocities` begins with the whole walk. Assumes nothing.
-use Rattle.std.proofs.Common.{arith}
 use Rattle.transfer.proofs.Velocities.{start}
 use Rattle.gather_entry.proofs.check_velocities.Goals as goal
 
 pub loop-k-init : goal.loop-k-init
-loop-k-init c = (omega arith, start _ _ _)
+loop-k-init c = start _ _ _

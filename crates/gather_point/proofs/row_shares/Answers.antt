@@ -32,4 +32,4 @@ row w {u} {at} s d r e =
 
 pub returns : goal.returns
 returns c =
-    row c.args.w c.weigh_three.ensures.1 (sizes-at c.args.u.now c.args.at c.requires.0 c.requires.1) c.weigh_three.result c.weigh_three.ensures.0
+    row c.args.w c.weigh.ensures.1 (sizes-at c.args.u.now c.args.at c.requires.0 c.requires.1) c.weigh.result c.weigh.ensures.0

@@ -12,7 +12,7 @@ abbrev read_block : Shares → Shares → Block
 read_block s t =
     record { sum = to_z w64 (of_z w64 s.sum); across = to_z w64 (of_z w64 t.sum); up = to_z w64 (of_z w64 s.tilt) }
 
--- the two calls of `weigh_three`
+-- the two calls of `weigh`
 rows : {w : AxisWeights} (a b c : Shares) → SmallShares a × SmallShares b × SmallShares c → SmallWeights w → (s t : Shares) → s ≡ weighed w (to_z w64 (of_z w64 a.sum)) (to_z w64 (of_z w64 b.sum)) (to_z w64 (of_z w64 c.sum)) → t ≡ weighed w (to_z w64 (of_z w64 a.tilt)) (to_z w64 (of_z w64 b.tilt)) (to_z w64 (of_z w64 c.tilt)) → (read_block s t ≡ block_of w a b c) × SmallBlock (read_block s t)
 unfolding block_of
 rows {w} a b c h k s t e f = (is, subst SmallBlock (sym is) small)
@@ -36,6 +36,6 @@ rows {w} a b c h k s t e f = (is, subst SmallBlock (sym is) small)
 
 pub returns : goal.returns
 returns c =
-    rows c.args.a c.args.b c.args.c c.requires c.weigh_three-tilts.ensures.1
-    c.weigh_three-sums.result c.weigh_three-tilts.result
-    c.weigh_three-sums.ensures.0 c.weigh_three-tilts.ensures.0
+    rows c.args.a c.args.b c.args.c c.requires c.weigh-tilts.ensures.1
+    c.weigh-sums.result c.weigh-tilts.result
+    c.weigh-sums.ensures.0 c.weigh-tilts.ensures.0

@@ -5,6 +5,3 @@ use Rattle.particles.proofs.check.Given as goal
 
 abbrev pub invariant-loop-k : goal.invariant-loop-k
 invariant-loop-k l = Checking l.nx l.ny l.start l.bytes l.count l.entry l.k
-
-abbrev pub decreases-loop-k : goal.decreases-loop-k
-decreases-loop-k l = l.count - l.k

@@ -1,11 +1,7 @@
--- As many bytes as were passed are put, with their numbers in their places. The measure is what is left of the text.
-use Prim.Native.Nat.{◌-◌}
-use lib.ListN.{length}
+-- As many bytes of the form as were passed are put, and the numbers of the others are left.
+use mathlib.Core.List.{map}
 use Rattle.text.proofs.Filling.{Filling}
 use Rattle.phrases.proofs.put_filled.Given as goal
 
-abbrev pub invariant-loop-i : goal.invariant-loop-i
-invariant-loop-i l = Filling l.text l.numbers l.initial.out l.at l.out l.last l.i l.k
-
-abbrev pub decreases-loop-i : goal.decreases-loop-i
-decreases-loop-i l = length l.text - l.i
+abbrev pub invariant-loop-byte : goal.invariant-loop-byte
+invariant-loop-byte g l = Filling l.form (map g.I.Integer.text l.fn.numbers) l.initial.text l.text l.byte-index (map g.I.Integer.text l.left)

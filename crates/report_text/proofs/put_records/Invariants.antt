@@ -1,10 +1,8 @@
--- The lines of as many records as were passed are put. The measure is what is left of the records.
-use Prim.Native.Nat.{◌-◌}
+-- The lines of as many records as were passed are put, and the others are left.
+use lib.ListN.{length}
+use Rattle.std.specs.Slice.Iter.{chunks_exact_rest, chunks_exact_size}
 use Rattle.report.proofs.Lines.{Printed}
 use Rattle.report_text.proofs.put_records.Given as goal
 
-abbrev pub invariant-loop-k : goal.invariant-loop-k
-invariant-loop-k l = Printed l.records l.initial.out l.at l.count l.out l.last l.k
-
-abbrev pub decreases-loop-k : goal.decreases-loop-k
-decreases-loop-k l = l.count - l.k
+abbrev pub invariant-loop-record : goal.invariant-loop-record
+invariant-loop-record l = Printed l.records l.initial.text l.text (chunks_exact_rest l.record-iterator) (chunks_exact_size l.record-iterator) (length l.yielded)

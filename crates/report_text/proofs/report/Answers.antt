@@ -1,5 +1,7 @@
 -- The checks, and then the text. Assumes nothing.
-use mathlib.Core.Path.{sym}
+use borrow.Author.Rules.{rules}
+use mathlib.Core.Path.{refl, sym, ap, ◌∙◌}
+use Rattle.refusal.specs.Refused.{gives}
 use Rattle.report.proofs.Answers.{bad-records, small-buffer, filled-answer, after}
 use Rattle.report_text.proofs.report.Goals as goal
 
@@ -18,5 +20,7 @@ returns-then-out-lt-REPORT_LENGTH c =
 pub returns : goal.returns
 returns c =
     let a = c.args in
-    let both = filled-answer a.outcome a.records.now a.out.now (sym c.if-not-length_is_valid.ensures) c.if-out-lt-REPORT_LENGTH.false c.put_outcome.ensures in
-    record { answer = both.0; buffer = both.1 }
+    let p = c.put_outcome.ensures in
+    let both = filled-answer a.outcome a.records.now a.out.now refl (sym c.if-not-length_is_valid.ensures) c.if-out-lt-REPORT_LENGTH.false c.new-text.ensures p in
+    let lent = sym (p.lent ∙ c.new-text.ensures.lent) in
+    record { answer = ap gives c.length.ensures ∙ both.0; buffer = search (rules, both.1, lent) }

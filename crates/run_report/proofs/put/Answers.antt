@@ -1,10 +1,11 @@
 -- The report is not refused. Assumes nothing.
-use Rattle.run_report.proofs.Reports.{put-text, put-never}
+use mathlib.Core.Path.{sym, ap, ◌∙◌}
+use Rattle.refusal.specs.Refused.{told}
+use Rattle.run_report.proofs.Reports.{report-ok, report-begins}
 use Rattle.run_report.proofs.put.Goals as goal
 
-pub returns-in-Length : goal.returns-in-Length
-returns-in-Length c =
-    put-text c.args.outcome c.args.records.now c.args.text.now c.requires.0 c.requires.1 c.in-Length.ensures.answer c.in-Length.ensures.buffer
+pub unwrap-requires : goal.unwrap-requires
+unwrap-requires c = report-ok c.args.outcome c.args.records.now c.args.text.now c.requires.0 c.requires.1 c.report.result c.report.ensures.answer
 
-pub returns-in-Refused : goal.returns-in-Refused
-returns-in-Refused c = put-never c.args.outcome c.args.records.now c.args.text.now c.requires.0 c.requires.1 c.in-Refused.ensures.answer
+pub returns : goal.returns
+returns c = report-begins c.args.outcome c.args.records.now c.args.text.now c.requires.0 c.requires.1 (ap told (sym c.unwrap.ensures) ∙ c.report.ensures.answer) c.report.ensures.buffer

@@ -11,7 +11,7 @@ pub scatter_parts-requires : goal.scatter_parts-requires
 scatter_parts-requires c =
     let lent : BuiltIn c.weight_table-table.result D = record { table_is = c.weight_table-table.ensures; D-is = refl } in
     record {
-      ready = add-ready c.requires lent c.clear_masses.ensures c.clear.ensures c.clear-2.ensures;
+      ready = add-ready c.requires lent (c.fill.ensures.after (λ y e. e)) (c.fill-2.ensures.after (λ y e. e)) (c.fill-3.ensures.after (λ y e. e));
       whole = whole-records c.args.nx c.args.ny c.args.records.now c.requires.set;
       room = search rules;
     }
@@ -21,4 +21,4 @@ returns c =
     let lent : BuiltIn c.weight_table-table.result D = record { table_is = c.weight_table-table.ensures; D-is = refl } in
     let a = c.args in
     built-in-scattered lent
-    (scattered a.mass.now a.px.now a.py.now c.clear_masses.ensures c.clear.ensures c.clear-2.ensures c.scatter_parts.ensures)
+    (scattered a.mass.now a.px.now a.py.now (c.fill.ensures.after (λ y e. e)) (c.fill-2.ensures.after (λ y e. e)) (c.fill-3.ensures.after (λ y e. e)) c.scatter_parts.ensures)

@@ -8,4 +8,4 @@ pub returns : goal.returns
 returns c =
     line-added c.requires c.times-lower.ensures c.times-nearest.ensures c.times-upper.ensures
     (to_z-of_z c.ranges.sx) (to_z-of_z c.ranges.bx) (to_z-of_z c.ranges.sy) (to_z-of_z c.ranges.by)
-    c.add_mass_row.ensures c.add_momenta-2.ensures c.add_momenta.ensures
+    c.add_row.ensures c.add_momenta-2.ensures c.add_momenta.ensures

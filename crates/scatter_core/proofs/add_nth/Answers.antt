@@ -1,22 +1,23 @@
 -- `scatter_core::add_nth` meets its contract: nine numbers are read, and their particle is added. Assumes nothing.
+use Rattle.std.proofs.Common.{◌∙◌}
 use Rattle.unpacked.proofs.Laws.{some_at, mass-at, x-at, y-at}
 use Rattle.scatter_core.proofs.Numbers.{numbers-read}
 use Rattle.scatter_core.proofs.Reading.{nth-asked, nth-added}
 use Rattle.scatter_core.proofs.add_nth.Goals as goal
 
-pub natural_at-m-requires : goal.natural_at-m-requires
-natural_at-m-requires c = mass-at (some_at c.requires.set c.args.k c.requires.below).holds
+pub natural_at-requires : goal.natural_at-requires
+natural_at-requires c = mass-at (some_at c.requires.set c.args.k c.requires.below).holds
 
-pub natural_at-x-requires : goal.natural_at-x-requires
-natural_at-x-requires c = x-at (some_at c.requires.set c.args.k c.requires.below).holds
+pub natural_at-requires-2 : goal.natural_at-requires-2
+natural_at-requires-2 c = x-at (some_at c.requires.set c.args.k c.requires.below).holds
 
-pub natural_at-y-requires : goal.natural_at-y-requires
-natural_at-y-requires c = y-at (some_at c.requires.set c.args.k c.requires.below).holds
+pub natural_at-requires-3 : goal.natural_at-requires-3
+natural_at-requires-3 c = y-at (some_at c.requires.set c.args.k c.requires.below).holds
 
 pub add_particle-requires : goal.add_particle-requires
 add_particle-requires c =
     nth-asked
-    (numbers-read c.natural_at-m.ensures c.natural_at-x.ensures c.natural_at-y.ensures
+    (numbers-read (c.from-m.ensures ∙ c.natural_at.ensures) (c.from-x.ensures ∙ c.natural_at-2.ensures) (c.from-y.ensures ∙ c.natural_at-3.ensures)
     (record { small = c.number_at-vx.type_inv; is = c.number_at-vx.ensures })
     (record { small = c.number_at-vy.type_inv; is = c.number_at-vy.ensures })
     (record { small = c.number_at-bxx.type_inv; is = c.number_at-bxx.ensures })
@@ -28,7 +29,7 @@ add_particle-requires c =
 pub returns : goal.returns
 returns c p h =
     nth-added
-    (numbers-read c.natural_at-m.ensures c.natural_at-x.ensures c.natural_at-y.ensures
+    (numbers-read (c.from-m.ensures ∙ c.natural_at.ensures) (c.from-x.ensures ∙ c.natural_at-2.ensures) (c.from-y.ensures ∙ c.natural_at-3.ensures)
     (record { small = c.number_at-vx.type_inv; is = c.number_at-vx.ensures })
     (record { small = c.number_at-vy.type_inv; is = c.number_at-vy.ensures })
     (record { small = c.number_at-bxx.type_inv; is = c.number_at-bxx.ensures })

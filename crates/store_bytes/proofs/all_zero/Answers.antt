@@ -1,21 +1,21 @@
--- A block that is not zero decides, and a turn of the loop passes one block more. Assumes nothing.
-use borrow.Author.Rules.{rules}
-use mathlib.Core.Path.{◌≡◌, sym, ap, ◌∙◌}
-use Prim.Native.Nat.{ℕ, ◌+◌, ◌*◌}
-use native.Mathlib.Omega.{arith}
-use lib.ListN.{drop}
+-- Every block, and what is left behind the last. Assumes nothing.
+use Rattle.std.proofs.Common.{◌/◌, length, sym, ◌∙◌, rules, tests}
+use Rattle.std.proofs.lemmas.Iterator.{YieldsList-from_slice}
+use Rattle.std.proofs.lemmas.Iterator.Search.{all_from_yields_List}
 use Rattle.store.specs.Names.{all_zero}
-use Rattle.store_bytes.proofs.Zeros.{block-zero, block-not-zero}
+use Rattle.store_bytes.proofs.Zeros.{zero-found}
 use Rattle.store_bytes.proofs.all_zero.Goals as goal
 
-one_more : (k : ℕ) → 512 * k + 512 ≡ 512 * (k + 1)
-one_more k = omega arith
-
-pub returns-then-joined-ne0 : goal.returns-then-joined-ne0
-returns-then-joined-ne0 c = sym (c.loop-k.invariant.1 ∙ block-not-zero c.args.bytes.now (512 * c.loop-k.k) 512 c.joined.result c.joined.ensures c.if-joined-ne0.true)
-
-pub loop-k-preserved : goal.loop-k-preserved
-loop-k-preserved c =
+pub returns-then-all : goal.returns-then-all
+returns-then-all c =
     let bytes = c.args.bytes.now in
-    let k = c.loop-k.k in
-    (search rules, c.loop-k.invariant.1 ∙ block-zero bytes (512 * k) 512 c.joined.result c.joined.ensures c.if-joined-ne0.false ∙ ap (λ n. all_zero (drop n bytes)) (one_more k))
+    let chunks = c.as_chunks.ensures in
+    let all = all_from_yields_List all_zero _ _ c.all.result c.all.ensures.ran (YieldsList-from_slice c.as_chunks.result.0.now cc) (λ x b q k. search (rules, tests)) in
+    c.joined.ensures ∙ zero-found 512 (length bytes / 512) bytes chunks.front chunks.back (sym c.if-all.true ∙ all)
+
+pub returns-else-all : goal.returns-else-all
+returns-else-all c =
+    let bytes = c.args.bytes.now in
+    let chunks = c.as_chunks.ensures in
+    let all = all_from_yields_List all_zero _ _ c.all.result c.all.ensures.ran (YieldsList-from_slice c.as_chunks.result.0.now cc) (λ x b q k. search (rules, tests)) in
+    c.if-all.false ∙ zero-found 512 (length bytes / 512) bytes chunks.front chunks.back (sym c.if-all.false ∙ all)

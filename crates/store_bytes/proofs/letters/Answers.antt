@@ -1,26 +1,21 @@
--- A byte that is no letter ends the count, and so does the end of the bytes. Assumes nothing.
-use mathlib.Core.Path.{ap₂}
-use mathlib.Core.Bool.{◌&&◌}
-use borrow.Author.Rules.{rules}
-use native.Mathlib.Omega.{arith}
-use Rattle.std.proofs.lemmas.Bool.Decides.{nat_tests}
-use borrow.Author.Tests.{le-leb}
-use lib.ListN.{get_or}
-use Rattle.store_bytes.proofs.Names.{letter, no-letter, letters-end}
+-- The library's count of the first bytes that are letters. Assumes nothing.
+use Rattle.std.proofs.Common.{◌≡◌, List, [], ◌∷◌, ℕ, suc, ◌+◌, cond, refl, sym, ap, ◌∙◌, arith, rules, tests}
+use Rattle.std.proofs.lemmas.Iterator.{YieldsList-from_slice}
+use Rattle.std.proofs.lemmas.Iterator.Consumers.{count_from_yields_List}
+use Rattle.std.proofs.lemmas.Iterator.Search.{YieldsList-from_take_while}
+use Rattle.std.proofs.lemmas.List.Folds.{length-prefix_len}
+use Rattle.std.specs.List.{prefix_len}
+use Rattle.store.specs.Names.{is_letter, letters}
 use Rattle.store_bytes.proofs.letters.Goals as goal
 
-pub returns-then-bytes-k-lt65 : goal.returns-then-bytes-k-lt65
-returns-then-bytes-k-lt65 c =
-    no-letter c.args.bytes.now c.loop-k.k c.loop-k.invariant.1 c.loop-k-test.true (grind (arith, nat_tests))
-
-pub loop-k-preserved : goal.loop-k-preserved
-loop-k-preserved c =
-    let bytes = c.args.bytes.now in
-    let k = c.loop-k.k in (
-      search rules,
-      letter bytes k c.loop-k.invariant.1 c.loop-k-test.true
-          (ap₂ ◌&&◌ (le-leb 65 (get_or bytes k 0) (omega arith)) (le-leb (get_or bytes k 0) 90 (omega arith))),
-    )
+letters-first : (l : List ℕ) → letters l ≡ prefix_len is_letter l
+unfolding letters
+letters-first [] = refl
+letters-first (b ∷ l) = ap (λ n. cond (is_letter b) n 0) {x = suc (letters l)} {y = 1 + prefix_len is_letter l} (omega (arith, letters-first l))
 
 pub returns : goal.returns
-returns c = letters-end c.args.bytes.now c.loop-k.k c.loop-k.invariant.1 c.loop-k-test.false
+returns c =
+    let bytes = c.args.bytes.now in
+    count_from_yields_List c.take_while.result _ c.count.ensures.ran (YieldsList-from_take_while _ is_letter (YieldsList-from_slice bytes (cc)) c.take_while.ensures.closure c.take_while.ensures.done (λ x b q k. search (rules, tests)))
+    ∙ length-prefix_len is_letter bytes
+    ∙ sym (letters-first bytes)

@@ -1,5 +1,6 @@
 -- The bath's own checks, and then the place. Assumes nothing.
 use mathlib.Core.Path.{sym}
+use Rattle.std.proofs.lemmas.Result.{err_from_is_err_and}
 use Rattle.bath_file.proofs.Callers.{bench-file}
 use Rattle.store.proofs.Bytes.{name-held}
 use Rattle.store.proofs.Stores.{file-long}
@@ -12,11 +13,13 @@ keep_file-requires c =
     record {
       store_long = (store-held c.args.store.now c.requires.form).long;
       name-long = (name-held c.args.name.now c.requires.named).short;
-      file-long = (file-long c.args.file.now (bench-file c.args.caller c.args.file.now (sym c.in-Accepted.ensures))).most;
+      file-long = (file-long c.args.file.now (bench-file c.args.caller c.args.file.now (sym c.in_ok-read_file.ensures))).most;
     }
 
-pub returns-in-Refused : goal.returns-in-Refused
-returns-in-Refused c = keep-bath c.args.caller c.args.store.now c.args.name.now c.args.file.now c.requires (sym c.in-Refused.ensures)
+pub returns-in_err-read_file : goal.returns-in_err-read_file
+returns-in_err-read_file c =
+    let p = err_from_is_err_and c.from_residual.result c.from_residual.ensures.1 in
+    rw (p.1, p.2) (keep-bath c.args.caller c.args.store.now c.args.name.now c.args.file.now c.requires (sym c.in_err-read_file.ensures))
 
-pub returns-in-Accepted : goal.returns-in-Accepted
-returns-in-Accepted c = keep-placed c.args.caller c.args.store.now c.args.name.now c.args.file.now c.requires (sym c.in-Accepted.ensures) c.keep_file.ensures
+pub returns : goal.returns
+returns c = keep-placed c.args.caller c.args.store.now c.args.name.now c.args.file.now c.requires (sym c.in_ok-read_file.ensures) c.keep_file.ensures

@@ -5,7 +5,6 @@ use mathlib.Core.List.{List}
 use Prim.Native.Nat.{ℕ, ◌+◌, ◌-◌, ◌*◌}
 use native.Mathlib.Numerals.{add-one}
 use native.Mathlib.Omega.{arith}
-use borrow.Author.Rules.{rules}
 use lib.ListN.{take, drop}
 use Rattle.store.specs.Names.{name_length, same_bytes}
 use Rattle.store.specs.Form.{place_length, name_in, place_at, places, first_named}
@@ -21,16 +20,14 @@ returns-then-same c =
     let store = c.args.store.now in
     let held = c.args.held.now in
     let k = c.loop-k.k in
-    (omega (arith, named store k held c.loop-k-test.true (compared store held k c.if-same.ensures), c.loop-k.invariant.1), c.loop-k.invariant.0)
+    (omega (arith, named store k held c.loop-k-test.true (compared store held k c.if-same.ensures), c.loop-k.invariant), c.loop-k-test.true)
 
 pub loop-k-preserved : goal.loop-k-preserved
 loop-k-preserved c =
     let store = c.args.store.now in
     let held = c.args.held.now in
-    let k = c.loop-k.k in (
-      search rules,
-      omega (arith, named store k held c.loop-k-test.true (compared store held k c.if-same.ensures), c.loop-k.invariant.1, ap (λ n. first_named held (drop n (places store))) (add-one k)),
-    )
+    let k = c.loop-k.k in
+    omega (arith, named store k held c.loop-k-test.true (compared store held k c.if-same.ensures), c.loop-k.invariant, ap (λ n. first_named held (drop n (places store))) (add-one k))
 
 pub returns : goal.returns
-returns c = (omega (arith, none_named c.args.store.now c.loop-k.k c.args.held.now c.loop-k-test.false, c.loop-k.invariant.1), c.loop-k.invariant.0)
+returns c = omega (arith, none_named c.args.store.now c.loop-k.k c.args.held.now c.loop-k-test.false, c.loop-k.invariant, c.requires.1)

@@ -1,12 +1,12 @@
 -- The place, its form, and its name in the places behind it. Assumes nothing.
-use mathlib.Core.Path.{◌≡◌, sym, ap, ap₂, ◌∙◌}
+use mathlib.Core.Path.{◌≡◌, sym, ap, ap₂, subst, ◌∙◌}
 use mathlib.Core.Bool.{Bool, false, not, ◌&&◌, ◌||◌}
 use mathlib.Core.List.{List}
 use Prim.Native.Nat.{ℕ, suc, ◌+◌, ◌-◌, ◌*◌}
 use lib.ListN.{take, drop}
 use Rattle.store.specs.Names.{all_zero}
 use Rattle.store.specs.Form.{place_length, name_in, occupied, place_at, places, first_named, is_named}
-use Rattle.store.specs.Internal.{valid_at}
+use Rattle.store.specs.Internal.{valid_at, Found}
 use Rattle.store_form.proofs.Places.{place-cut, unnamed}
 use Rattle.store_form.proofs.valid_at.Goals as goal
 
@@ -29,14 +29,14 @@ pub returns-then-all_zero : goal.returns-then-all_zero
 returns-then-all_zero c =
     let store = c.args.store.now in
     let k = c.args.k in
-    ap (λ t. t || occupied (place_at store k) && behind store k) (sym (zeros store k c.if-all_zero.ensures))
+    c.if-all_zero.true ∙ ap (λ t. t || occupied (place_at store k) && behind store k) (sym (zeros store k c.if-all_zero.ensures))
 
 pub returns-then-occupied : goal.returns-then-occupied
 returns-then-occupied c =
     let store = c.args.store.now in
     let k = c.args.k in
-    let found = c.find.ensures.0 ∙ ap (λ p. k + 1 + first_named (name_in p) (drop (k + 1) (places store))) (place-cut store k) in
-    unnamed store k (name_in (place_at store k)) c.requires.1 found c.find.ensures.1 ∙ by_form store k c.if-all_zero.ensures c.if-occupied.ensures
+    let found = subst (λ p. Found (k + 1 + first_named (name_in p) (drop (k + 1) (places store))) c.find.result) (place-cut store k) c.find.ensures in
+    unnamed store k (name_in (place_at store k)) c.find.result c.requires.1 found c.is_none.ensures ∙ by_form store k c.if-all_zero.ensures c.if-occupied.ensures
 
 pub returns-else-occupied : goal.returns-else-occupied
 returns-else-occupied c = c.if-occupied.false ∙ by_form c.args.store.now c.args.k c.if-all_zero.ensures c.if-occupied.ensures

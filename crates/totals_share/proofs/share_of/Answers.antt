@@ -1,6 +1,6 @@
 -- `share_of` meets its contract: each number that it widens is the particle's, and each part of the share follows from
 -- the parts' contracts. Assumes nothing.
-use Rattle.std.proofs.Common.{arith, ◌≡◌, ◌<◌, ℤ, ℕ, pos, to_z, of_z}
+use Rattle.std.proofs.Common.{arith, ◌≡◌, ℤ, pos, to_z, of_z}
 use mir.Syntax.{w16}
 use Rattle.arith.specs.Size.{sizes, bounded}
 use Rattle.bits.proofs.Held.{held-unsigned, held-signed}
@@ -9,19 +9,16 @@ use Rattle.particle.proofs.Fields.{Typed, typed}
 use Rattle.totals_share.proofs.Shares.{Widened, linear-fits, angular-fits, straight-fits, turning-fits, motion-fits, is_share}
 use Rattle.totals_share.proofs.share_of.Goals as goal
 
--- what `unsigned` and `signed` promise of the number m
-abbrev Unsigned : ℤ → ℕ → Type 0
-Unsigned m n = (m ≡ pos n) × (n < 65536)
-
+-- what `from` says of a number with sign
 abbrev Signed : ℤ → ℤ → Type 0
 Signed m z = m ≡ to_z w16 (of_z w16 z)
 
-wide : (p : Particle) → Typed p → {m x y vx vy bxx bxy byx byy : ℤ} → Unsigned m p.mass → Unsigned x p.x → Unsigned y p.y → Signed vx p.vx → Signed vy p.vy → Signed bxx p.bxx → Signed bxy p.bxy → Signed byx p.byx → Signed byy p.byy → Widened p m x y vx vy bxx bxy byx byy
+wide : (p : Particle) → Typed p → {m x y vx vy bxx bxy byx byy : ℤ} → m ≡ pos p.mass → x ≡ pos p.x → y ≡ pos p.y → Signed vx p.vx → Signed vy p.vy → Signed bxx p.bxx → Signed bxy p.bxy → Signed byx p.byx → Signed byy p.byy → Widened p m x y vx vy bxx bxy byx byy
 wide p t m x y vx vy bxx bxy byx byy =
     record {
-      mass-held = held-unsigned p.mass m.0 m.1;
-      x-held = held-unsigned p.x x.0 x.1;
-      y-held = held-unsigned p.y y.0 y.1;
+      mass-held = held-unsigned p.mass m t.mass;
+      x-held = held-unsigned p.x x t.x;
+      y-held = held-unsigned p.y y t.y;
       vx-held = held-signed p.vx vx t.vx;
       vy-held = held-signed p.vy vy t.vy;
       bxx-held = held-signed p.bxx bxx t.bxx;
@@ -32,25 +29,25 @@ wide p t m x y vx vy bxx bxy byx byy =
 
 pub linear_share-requires-2 : goal.linear_share-requires-2
 linear_share-requires-2 c =
-    let w = wide c.args.p (typed c.args.p c.type_inv.p) c.unsigned-m.ensures c.unsigned-x.ensures c.unsigned-y.ensures c.signed-vx.ensures c.signed-vy.ensures c.signed-bxx.ensures c.signed-bxy.ensures c.signed-byx.ensures c.signed-byy.ensures in
+    let w = wide c.args.p (typed c.args.p c.type_inv.p) c.from-m.ensures c.from-x.ensures c.from-y.ensures c.from-vx.ensures c.from-vy.ensures c.from-bxx.ensures c.from-bxy.ensures c.from-byx.ensures c.from-byy.ensures in
     linear-fits w.mass-held.here w.vy-held.here
 
 pub angular_share-requires : goal.angular_share-requires
 angular_share-requires c =
-    let w = wide c.args.p (typed c.args.p c.type_inv.p) c.unsigned-m.ensures c.unsigned-x.ensures c.unsigned-y.ensures c.signed-vx.ensures c.signed-vy.ensures c.signed-bxx.ensures c.signed-bxy.ensures c.signed-byx.ensures c.signed-byy.ensures in
+    let w = wide c.args.p (typed c.args.p c.type_inv.p) c.from-m.ensures c.from-x.ensures c.from-y.ensures c.from-vx.ensures c.from-vy.ensures c.from-bxx.ensures c.from-bxy.ensures c.from-byx.ensures c.from-byy.ensures in
     angular-fits w.mass-held.here w.x-held.here w.y-held.here w.vx-held.here w.vy-held.here w.byx-held.here w.bxy-held.here
 
 -- the sizes alone: that the numbers are the ones that motion counts is for `returns`
 pub straight_part-requires : goal.straight_part-requires
 straight_part-requires c =
-    let w = wide c.args.p (typed c.args.p c.type_inv.p) c.unsigned-m.ensures c.unsigned-x.ensures c.unsigned-y.ensures c.signed-vx.ensures c.signed-vy.ensures c.signed-bxx.ensures c.signed-bxy.ensures c.signed-byx.ensures c.signed-byy.ensures in
+    let w = wide c.args.p (typed c.args.p c.type_inv.p) c.from-m.ensures c.from-x.ensures c.from-y.ensures c.from-vx.ensures c.from-vy.ensures c.from-bxx.ensures c.from-bxy.ensures c.from-byx.ensures c.from-byy.ensures in
     let vx = w.vx-held.here in
     let vy = w.vy-held.here in
     straight-fits (bounded (search sizes depth 20) tt) (bounded (search sizes depth 20) tt) (bounded (search sizes depth 20) tt)
 
 pub turning_part-requires : goal.turning_part-requires
 turning_part-requires c =
-    let w = wide c.args.p (typed c.args.p c.type_inv.p) c.unsigned-m.ensures c.unsigned-x.ensures c.unsigned-y.ensures c.signed-vx.ensures c.signed-vy.ensures c.signed-bxx.ensures c.signed-bxy.ensures c.signed-byx.ensures c.signed-byy.ensures in
+    let w = wide c.args.p (typed c.args.p c.type_inv.p) c.from-m.ensures c.from-x.ensures c.from-y.ensures c.from-vx.ensures c.from-vy.ensures c.from-bxx.ensures c.from-bxy.ensures c.from-byx.ensures c.from-byy.ensures in
     let bxx = w.bxx-held.here in
     let bxy = w.bxy-held.here in
     let byx = w.byx-held.here in
@@ -59,7 +56,7 @@ turning_part-requires c =
 
 pub motion_share-requires : goal.motion_share-requires
 motion_share-requires c =
-    let w = wide c.args.p (typed c.args.p c.type_inv.p) c.unsigned-m.ensures c.unsigned-x.ensures c.unsigned-y.ensures c.signed-vx.ensures c.signed-vy.ensures c.signed-bxx.ensures c.signed-bxy.ensures c.signed-byx.ensures c.signed-byy.ensures in
+    let w = wide c.args.p (typed c.args.p c.type_inv.p) c.from-m.ensures c.from-x.ensures c.from-y.ensures c.from-vx.ensures c.from-vy.ensures c.from-bxx.ensures c.from-bxy.ensures c.from-byx.ensures c.from-byy.ensures in
     let vx = w.vx-held.here in
     let vy = w.vy-held.here in
     let bxx = w.bxx-held.here in
@@ -87,11 +84,11 @@ returns c =
       byy = omega arith;
       marks = omega arith;
     } in
-    is_share (wide c.args.p t c.unsigned-m.ensures c.unsigned-x.ensures c.unsigned-y.ensures c.signed-vx.ensures c.signed-vy.ensures c.signed-bxx.ensures c.signed-bxy.ensures c.signed-byx.ensures c.signed-byy.ensures)
+    is_share (wide c.args.p t c.from-m.ensures c.from-x.ensures c.from-y.ensures c.from-vx.ensures c.from-vy.ensures c.from-bxx.ensures c.from-bxy.ensures c.from-byx.ensures c.from-byy.ensures)
     c.linear_share.ensures
     c.linear_share-2.ensures
     c.angular_share.ensures
     c.straight_part.ensures
     c.turning_part.ensures
     c.motion_share.ensures
-    t.marks
+    (held-unsigned p.marks c.from.ensures (omega arith))

@@ -9,10 +9,8 @@ use Rattle.arith.specs.Fill.{filled, filled_none, filled-read, filled_more, fill
 use Rattle.limits.specs.Limits.{most_node_velocity}
 use Rattle.apic.specs.Step.{after_drag}
 use Rattle.apic.proofs.Edges.{drag-none}
+use Rattle.update_drag.proofs.slow.Invariants.{at}
 use Rattle.update_drag.proofs.slow.Goals as goal
-
-abbrev at : ℕ → List ℤ → ℕ → ℤ
-at drag velocities k = after_drag rounded drag (get_or velocities k (pos 0))
 
 module _ (drag : ℕ) (velocities₀ velocities : List ℤ) (k : ℕ) (inside : k < length velocities₀) (held : velocities ≡ filled (at drag velocities₀) k velocities₀) where
   -- the next velocity is as it was
@@ -26,45 +24,42 @@ module _ (drag : ℕ) (velocities₀ velocities : List ℤ) (k : ℕ) (inside : 
       ∙ filled_more (at drag velocities₀) (pos 0) velocities₀ k inside
 
 -- no drag
-unslowed : (drag : ℕ) (velocities : List ℤ) → drag ≡ 0 → velocities ≡ map (after_drag rounded drag) velocities
-unslowed drag velocities none = sym (ap (λ k. map (after_drag rounded k) velocities) none ∙ same velocities)
-  where
-    same : (l : List ℤ) → map (after_drag rounded 0) l ≡ l
-    same [] = refl
-    same (u ∷ l) = ap₂ ◌∷◌ (drag-none rounded rounded-error u) (same l)
+same : (l : List ℤ) → map (after_drag rounded 0) l ≡ l
+same [] = refl
+same (u ∷ l) = ap₂ ◌∷◌ (drag-none rounded rounded-error u) (same l)
 
 pub returns-then-drag-eq0 : goal.returns-then-drag-eq0
-returns-then-drag-eq0 c = unslowed c.args.drag c.args.velocities.now c.if-drag-eq0.true
+returns-then-drag-eq0 c = rw c.if-drag-eq0.true (sym (same c.args.velocities.now))
 
-pub loop-k-init : goal.loop-k-init
-loop-k-init c = (omega arith, filled_none _ _)
+pub loop-u-init : goal.loop-u-init
+loop-u-init c = filled_none _ _
 
 pub slowed-requires : goal.slowed-requires
 slowed-requires c =
     let u = c.args.velocities.now in
-    let k = c.loop-k.k in
+    let k = c.loop-u.u-index in
     let h : k < length u = omega arith in
-    let f : FitsSigned w64 (get_or c.loop-k.velocities k (pos 0)) = search rules in (
+    let f : FitsSigned w64 (get_or c.loop-u.velocities k (pos 0)) = search rules in (
       subst (λ u. Bound u most_node_velocity)
-          (sym (to_z-of_z f ∙ next c.args.drag u c.loop-k.velocities k h c.loop-k.invariant.1))
+          (sym (to_z-of_z f ∙ next c.args.drag u c.loop-u.velocities k h c.loop-u.invariant))
           (each_at (λ u. Bound u most_node_velocity) u k (pos 0) c.requires.0 h),
       c.requires.1,
     )
 
-pub loop-k-preserved : goal.loop-k-preserved
-loop-k-preserved c =
+pub loop-u-preserved : goal.loop-u-preserved
+loop-u-preserved c =
     let u = c.args.velocities.now in
-    let k = c.loop-k.k in
+    let k = c.loop-u.u-index in
     let h : k < length u = omega arith in
-    let f : FitsSigned w64 (get_or c.loop-k.velocities k (pos 0)) = search rules in
+    let f : FitsSigned w64 (get_or c.loop-u.velocities k (pos 0)) = search rules in
     let r : FitsSigned w64 c.slowed.result = search rules in
-    (omega arith, stored c.args.drag u c.loop-k.velocities k h c.loop-k.invariant.1 c.slowed.result r f c.slowed.ensures)
+    stored c.args.drag u c.loop-u.velocities k h c.loop-u.invariant c.slowed.result r f c.slowed.ensures
 
 pub returns : goal.returns
 returns c =
     let u = c.args.velocities.now in
-    let all : c.loop-k.k ≡ length u = omega arith in
-    c.loop-k.invariant.1
+    let all : c.loop-u.u-index ≡ length u = omega arith in
+    c.loop-u.invariant
     ∙ ap (λ k. filled (at c.args.drag u) k u) all
     ∙ filled-all (at c.args.drag u) u (length u) refl
     ∙ mapped (after_drag rounded c.args.drag) (pos 0) u

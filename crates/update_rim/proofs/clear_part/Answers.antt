@@ -15,5 +15,5 @@ zeros from count u room = ap (λ n. replicate (length (take n (drop from u))) (p
 pub returns : goal.returns
 returns c =
     let u = c.args.velocities.now in
-    placed-back u c.args.from c.args.count (c.clear.ensures ∙ zeros c.args.from c.args.count u c.requires) (length-replicate c.args.count (pos 0))
+    placed-back u c.args.from c.args.count (c.fill.ensures.after (λ y e. e) ∙ zeros c.args.from c.args.count u c.requires) (length-replicate c.args.count (pos 0))
     ∙ cleared-part c.args.from c.args.count u c.requires

@@ -15,18 +15,18 @@ turned {nx} {ny} {width} {u₀} room j e f g =
     ∙ cleared-cong (λ k. (done nx width j k || in_part (j * nx) width k) || in_part (j * nx + nx - width) width k) u₀ (done nx width (j + 1)) (λ k h. row-turn nx width j (some room) (narrow-x room) k)
 
 pub loop-j-init : goal.loop-j-init
-loop-j-init c = (omega arith, sym (cleared-none (done c.args.nx c.args.width 0) c.args.velocities.now (no_row c.args.nx c.args.width)))
+loop-j-init c = sym (cleared-none (done c.args.nx c.args.width 0) c.args.velocities.now (no_row c.args.nx c.args.width))
 
 pub loop-j-preserved : goal.loop-j-preserved
 loop-j-preserved c =
-    (omega arith, turned c.requires c.loop-j.j c.loop-j.invariant.1 c.clear_part.ensures c.clear_part-in-loop-j.ensures)
+    turned c.requires c.loop-j.j c.loop-j.invariant c.clear_part.ensures c.clear_part-in-loop-j.ensures
 
 pub returns : goal.returns
 returns c =
     let a = c.args in
     let u = a.velocities.now in
     let all : c.loop-j.j ≡ a.ny = omega arith in
-    c.loop-j.invariant.1
+    c.loop-j.invariant
     ∙ ap (λ j. cleared (done a.nx a.width j) u) all
     ∙ cleared-cong (done a.nx a.width a.ny) u (in_columns a.width a.nx)
     (λ k h. all-rows a.nx a.ny a.width k (some c.requires) (subst (λ n. k < n) c.requires.count h))

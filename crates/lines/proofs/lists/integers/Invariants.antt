@@ -1,6 +1,0 @@
--- `lists::integers` is safe and ends. The measure is what is left of the buffer.
-use Rattle.std.proofs.Common.{◌-◌, length}
-use Rattle.lines.proofs.lists.integers.Given as goal
-
-abbrev pub decreases-loop-k : goal.decreases-loop-k
-decreases-loop-k l = length l.initial.list - l.k

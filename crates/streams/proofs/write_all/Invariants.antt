@@ -1,9 +1,0 @@
--- What `write_all`'s loop keeps: no more is written than the text has. The measure is the number of calls left.
-use Rattle.std.proofs.Common.{◌≤◌, length}
-use Rattle.streams.proofs.write_all.Given as goal
-
-abbrev pub invariant-loop-calls : goal.invariant-loop-calls
-invariant-loop-calls g l = l.done ≤ length l.text
-
-abbrev pub decreases-loop-calls : goal.decreases-loop-calls
-decreases-loop-calls g l = l.calls
