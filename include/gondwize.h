@@ -27,12 +27,12 @@
  * bench's need up to 152.1: 129.1 kB less. Its other calls need what those without page_ do.
  *
  *     kB                        refused        0        1    to 64   to 512 to 4,096
- *     gondwize_run                  3.2      4.4      4.4      4.4     23.0    152.1
- *     gondwize_run, no step         3.2      4.4      4.4      4.4     23.0    152.1
- *     gondwize_step                 3.2      4.4      4.4      4.4     23.0    152.1
- *     gondwize_page_run             3.2      4.4      4.4      4.4     23.0
- *     .. no step                    3.2      4.4      4.4      4.4     23.0
- *     gondwize_page_step            3.2      4.4      4.4      4.4     23.0
+ *     gondwize_run                  3.2      4.3      4.3      4.3     23.0    152.1
+ *     gondwize_run, no step         3.2      4.3      4.3      4.3     23.0    152.1
+ *     gondwize_step                 3.2      4.3      4.3      4.3     23.0    152.1
+ *     gondwize_page_run             3.2      4.3      4.3      4.3     23.0
+ *     .. no step                    3.2      4.3      4.3      4.3     23.0
+ *     gondwize_page_step            3.2      4.3      4.3      4.3     23.0
  *     gondwize_scatter              0.5      2.6      2.6      2.6      2.6      2.6
  *     gondwize_adding_scatter       8.3     67.6     67.6     67.6     67.6     67.6
  *     .. to 320 nodes               8.3     10.5     10.5     10.5     10.5     10.5

@@ -6,61 +6,62 @@ pub mod records;
 
 use limits::Caller;
 use lines::console::Console;
-use lines::lists::{Grid, List};
+use lines::lists::{Grid, NODES};
 use lines::operation::Operation;
-use std::io;
 use totals::SUMS;
 use wide::SETTINGS;
 
-fn check_set(console: &mut Console, caller: Caller, bytes: &[u8]) -> io::Result<()> {
-    let [nx, ny] = console.numbers::<2>()?;
+fn check_set(console: &mut Console, caller: Caller, bytes: &[u8]) {
+    let [nx, ny] = console.numbers::<2>();
     let mut count = 7;
-    console.answer(by_caller::check_set(caller, nx.into(), ny.into(), bytes, &mut count))?;
-    console.values('n', &[count])
+    console.answer(by_caller::check_set(caller, nx.into(), ny.into(), bytes, &mut count));
+    console.values(b'n', &[count]);
 }
 
-fn totals(console: &mut Console, caller: Caller, bytes: &[u8]) -> io::Result<()> {
-    let [nx, ny] = console.numbers::<2>()?;
+fn totals(console: &mut Console, caller: Caller, bytes: &[u8]) {
+    let [nx, ny] = console.numbers::<2>();
     let mut values = [7; SUMS];
-    console.answer(by_caller::totals(caller, nx.into(), ny.into(), bytes, &mut values))?;
-    console.values('v', &values)
+    console.answer(by_caller::totals(caller, nx.into(), ny.into(), bytes, &mut values));
+    console.values(b'v', &values);
 }
 
-fn scatter(console: &mut Console, caller: Caller, bytes: &[u8]) -> io::Result<()> {
-    let [nx, ny] = console.numbers::<2>()?;
-    let mut grid = Grid::read(console)?;
-    console.answer(by_caller::scatter(
+fn scatter(console: &mut Console, caller: Caller, bytes: &[u8]) {
+    let [nx, ny] = console.numbers::<2>();
+    let mut grid = Grid::new();
+    let code = by_caller::scatter(
         caller,
         nx.into(),
         ny.into(),
         bytes,
-        grid.mass.lent(),
-        grid.x.lent(),
-        grid.y.lent(),
-    ))?;
-    grid.print(console)
+        console.list(&mut grid.mass),
+        console.list(&mut grid.x),
+        console.list(&mut grid.y),
+    );
+    console.answer(code);
+    grid.print(console);
 }
 
 // In form as `scatter`, with another operation.
-fn adding_scatter(console: &mut Console, caller: Caller, bytes: &[u8]) -> io::Result<()> {
-    let [nx, ny] = console.numbers::<2>()?;
-    let mut grid = Grid::read(console)?;
-    console.answer(by_caller::adding_scatter(
+fn adding_scatter(console: &mut Console, caller: Caller, bytes: &[u8]) {
+    let [nx, ny] = console.numbers::<2>();
+    let mut grid = Grid::new();
+    let code = by_caller::adding_scatter(
         caller,
         nx.into(),
         ny.into(),
         bytes,
-        grid.mass.lent(),
-        grid.x.lent(),
-        grid.y.lent(),
-    ))?;
-    grid.print(console)
+        console.list(&mut grid.mass),
+        console.list(&mut grid.x),
+        console.list(&mut grid.y),
+    );
+    console.answer(code);
+    grid.print(console);
 }
 
-fn update(console: &mut Console, caller: Caller) -> io::Result<()> {
-    let [nx, ny, gx, gy, kind, width, drag] = console.numbers::<7>()?;
-    let mut grid = Grid::read(console)?;
-    console.answer(by_caller::update(
+fn update(console: &mut Console, caller: Caller) {
+    let [nx, ny, gx, gy, kind, width, drag] = console.numbers::<7>();
+    let mut grid = Grid::new();
+    let code = by_caller::update(
         caller,
         nx.into(),
         ny.into(),
@@ -69,25 +70,28 @@ fn update(console: &mut Console, caller: Caller) -> io::Result<()> {
         kind.into(),
         width.into(),
         drag.into(),
-        grid.mass.lent(),
-        grid.x.lent(),
-        grid.y.lent(),
-    ))?;
-    grid.print(console)
+        console.list(&mut grid.mass),
+        console.list(&mut grid.x),
+        console.list(&mut grid.y),
+    );
+    console.answer(code);
+    grid.print(console);
 }
 
-fn gather(console: &mut Console, caller: Caller, bytes: &mut [u8]) -> io::Result<()> {
-    let [nx, ny] = console.numbers::<2>()?;
-    let mut x = List::read(console)?;
-    let mut y = List::read(console)?;
-    console.answer(by_caller::gather(caller, nx.into(), ny.into(), bytes, x.lent(), y.lent()))?;
-    records::print(console, bytes)
+fn gather(console: &mut Console, caller: Caller, bytes: &mut [u8]) {
+    let [nx, ny] = console.numbers::<2>();
+    let mut x = [0; NODES];
+    let mut y = [0; NODES];
+    let ux = console.list(&mut x);
+    let uy = console.list(&mut y);
+    console.answer(by_caller::gather(caller, nx.into(), ny.into(), bytes, ux, uy));
+    records::print(console, bytes);
 }
 
-fn step(console: &mut Console, caller: Caller, bytes: &mut [u8]) -> io::Result<()> {
-    let [nx, ny, gx, gy, kind, width, drag] = console.numbers::<7>()?;
-    let mut grid = Grid::read(console)?;
-    console.answer(by_caller::step(
+fn step(console: &mut Console, caller: Caller, bytes: &mut [u8]) {
+    let [nx, ny, gx, gy, kind, width, drag] = console.numbers::<7>();
+    let mut grid = Grid::new();
+    let code = by_caller::step(
         caller,
         nx.into(),
         ny.into(),
@@ -97,19 +101,20 @@ fn step(console: &mut Console, caller: Caller, bytes: &mut [u8]) -> io::Result<(
         width.into(),
         drag.into(),
         bytes,
-        grid.mass.lent(),
-        grid.x.lent(),
-        grid.y.lent(),
-    ))?;
-    records::print(console, bytes)?;
-    grid.print(console)
+        console.list(&mut grid.mass),
+        console.list(&mut grid.x),
+        console.list(&mut grid.y),
+    );
+    console.answer(code);
+    records::print(console, bytes);
+    grid.print(console);
 }
 
-fn run(console: &mut Console, caller: Caller, bytes: &mut [u8]) -> io::Result<()> {
-    let [nx, ny, gx, gy, kind, width, drag, steps] = console.numbers::<8>()?;
-    let mut grid = Grid::read(console)?;
+fn run(console: &mut Console, caller: Caller, bytes: &mut [u8]) {
+    let [nx, ny, gx, gy, kind, width, drag, steps] = console.numbers::<8>();
+    let mut grid = Grid::new();
     let mut completed = 7;
-    console.answer(coding::run_told(
+    let code = coding::run_told(
         caller,
         nx.into(),
         ny.into(),
@@ -120,29 +125,25 @@ fn run(console: &mut Console, caller: Caller, bytes: &mut [u8]) -> io::Result<()
         drag.into(),
         steps.into(),
         bytes,
-        grid.mass.lent(),
-        grid.x.lent(),
-        grid.y.lent(),
+        console.list(&mut grid.mass),
+        console.list(&mut grid.x),
+        console.list(&mut grid.y),
         &mut completed,
-    ))?;
-    records::print(console, bytes)?;
-    console.values('n', &[completed])?;
-    grid.print(console)
+    );
+    console.answer(code);
+    records::print(console, bytes);
+    console.values(b'n', &[completed]);
+    grid.print(console);
 }
 
-fn read_file(console: &mut Console, caller: Caller, bytes: &[u8]) -> io::Result<()> {
+fn read_file(console: &mut Console, caller: Caller, bytes: &[u8]) {
     let mut values = [7; SETTINGS];
-    console.answer(by_caller::read_file(caller, bytes, &mut values))?;
-    console.values('v', &values)
+    console.answer(by_caller::read_file(caller, bytes, &mut values));
+    console.values(b'v', &values);
 }
 
 // Calls an operation for a caller; nothing where it is none of these. The program `cases` calls it.
-pub fn call(
-    operation: Operation,
-    console: &mut Console,
-    caller: Caller,
-    bytes: &mut [u8],
-) -> io::Result<()> {
+pub fn call(operation: Operation, console: &mut Console, caller: Caller, bytes: &mut [u8]) {
     match operation {
         Operation::CheckSet => check_set(console, caller, bytes),
         Operation::Totals => totals(console, caller, bytes),
@@ -153,6 +154,6 @@ pub fn call(
         Operation::Step => step(console, caller, bytes),
         Operation::Run => run(console, caller, bytes),
         Operation::ReadFile => read_file(console, caller, bytes),
-        _ => Ok(()),
+        _ => {}
     }
 }

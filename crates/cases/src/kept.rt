@@ -2,9 +2,6 @@
 use limits::Caller;
 use lines::console::Console;
 use particle::{NUMBERS, RECORD_LENGTH};
-use particles::SET_LENGTH;
-use std::alloc::{AllocError, Global};
-use std::io;
 use store::STORE_LENGTH;
 
 // So many bits of a record hold each of its fields, the first highest.
@@ -12,30 +9,29 @@ const WIDTHS: [u32; NUMBERS] = [16, 10, 12, 12, 7, 7, 12, 12, 12, 12, 8];
 
 // The caller, the records or the file, the store, and how much of each is lent.
 #[derive(Drop)]
-pub struct Kept {
+pub struct Kept<'a> {
     pub caller: Caller,
-    pub bytes: Vec<u8>,
+    pub bytes: &'a mut [u8],
     pub end: usize,
-    pub store: Vec<u8>,
+    pub store: &'a mut [u8],
     pub lent: usize,
 }
 
-impl Kept {
-    // Room for one record more than a set may have, and for one byte more than a store has.
-    pub fn new(alloc: Global) -> Result<Kept, AllocError> {
-        Ok(Kept {
+impl<'a> Kept<'a> {
+    pub fn new(bytes: &'a mut [u8], store: &'a mut [u8]) -> Kept<'a> {
+        Kept {
             caller: Caller::Bench,
-            bytes: vec![in alloc; 0; SET_LENGTH + RECORD_LENGTH]?,
+            bytes,
             end: 0,
-            store: vec![in alloc; 0; STORE_LENGTH + 1]?,
+            store,
             lent: STORE_LENGTH,
-        })
+        }
     }
 
     // Reads where the records begin and end, and the fields of the first one. Identifiers and marks rise from record to record.
-    pub fn fill(&mut self, console: &mut Console) -> io::Result<()> {
-        let [from, end] = console.numbers::<2>()?;
-        let mut fields = console.numbers::<NUMBERS>()?.map(u64::from);
+    pub fn fill(&mut self, console: &mut Console) {
+        let [from, end] = console.numbers::<2>();
+        let mut fields = console.numbers::<NUMBERS>().map(u64::from);
         let from = self.bytes.len().min(from.into());
         for part in self.bytes[from..].chunks_mut(RECORD_LENGTH) {
             for (byte, packed) in part.iter_mut().zip(packed(&fields)) {
@@ -45,17 +41,15 @@ impl Kept {
             fields[NUMBERS - 1] = fields[NUMBERS - 1].wrapping_add(1);
         }
         self.end = end.into();
-        Ok(())
     }
 
     // Reads how much of the store is lent, and the index of one byte and what it is then, so that a store can be damaged.
-    pub fn set(&mut self, console: &mut Console) -> io::Result<()> {
-        let [lent, at, byte] = console.numbers::<3>()?;
+    pub fn set(&mut self, console: &mut Console) {
+        let [lent, at, byte] = console.numbers::<3>();
         if let Some(place) = self.store.get_mut(usize::from(at)) {
             *place = byte.into();
         }
         self.lent = lent.into();
-        Ok(())
     }
 }
 

@@ -8,28 +8,37 @@ mod kept;
 use kept::Kept;
 use lines::console::Console;
 use lines::operation::Operation;
-use std::io;
+use particle::RECORD_LENGTH;
+use particles::SET_LENGTH;
+use store::STORE_LENGTH;
+
+// Room for one record more than a set may have.
+const BYTES: usize = SET_LENGTH + RECORD_LENGTH;
+
+// Room for a store, and one byte more.
+const STORE: usize = STORE_LENGTH + 1;
 
 // The most lines of an input.
 const MOST_LINES: u32 = 65536;
 
 // The lines, one after the other, up to the last name that has a byte behind it. A name that is not known is passed over.
-fn serve(console: &mut Console, kept: &mut Kept) -> io::Result<()> {
+fn serve(console: &mut Console, kept: &mut Kept) {
     for _ in 0..MOST_LINES {
-        let name = console.word()?;
+        let name = console.word();
         if name.end.is_none() {
-            break;
+            return;
         }
-        if let Some(operation) = Operation::named(&name) {
-            calls::call(operation, console, kept)?;
+        if let Some(operation) = Operation::named(name.number) {
+            calls::call(operation, console, kept);
         }
     }
-    Ok(())
 }
 
-fn main(rt: HostRuntime) -> io::Result<()> {
-    let mut console = Console::new(&rt)?;
-    let mut kept = Kept::new(rt.alloc())?;
-    serve(&mut console, &mut kept)?;
-    console.flush()
+fn main(rt: HostRuntime) {
+    let mut bytes = [0; BYTES];
+    let mut store = [0; STORE];
+    serve(
+        &mut Console::new(&rt),
+        &mut Kept::new(&mut bytes, &mut store),
+    );
 }

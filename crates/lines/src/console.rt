@@ -1,8 +1,10 @@
-// Standard input by words, and standard output. Each byte that is read is printed too.
-use crate::words::{Number, Word};
-use std::alloc::Global;
-use std::fmt::Display;
-use std::io::{self, BufReader, BufWriter, Lock, Read, StdinLock, StdoutLock, Write};
+// Standard input by words, and standard output. Each byte is printed as it is taken, so that whoever sends one call after the other
+// sees the answer to each. A read that fails is the end of the input, and what cannot be written is passed over.
+ghost use Rattle.std.specs.Prelude.{◌≤◌, length};
+
+use crate::words::{self, Number, Word};
+use itoa::{Buffer, Integer};
+use std::io::{Lock, Read, StdinLock, StdoutLock, Write};
 
 // What a refusal's number is multiplied by in the answer of an exported function.
 const PLACES: u64 = 0x100000000;
@@ -12,82 +14,133 @@ const MOST_BYTES: u32 = 65536;
 
 #[derive(Drop)]
 pub struct Console {
-    pub alloc: Global,
-    input: BufReader<StdinLock<'static>>,
-    output: BufWriter<StdoutLock<'static>>,
+    input: StdinLock<'static>,
+    output: StdoutLock<'static>,
 }
 
 impl Console {
-    pub fn new(rt: &HostRuntime) -> io::Result<Console> {
-        let alloc = rt.alloc();
-        let input = BufReader::new(alloc, rt.stdin().lock())?;
-        let output = BufWriter::new(alloc, rt.stdout().lock())?;
-        Ok(Console {
-            alloc,
-            input,
-            output,
-        })
+    pub fn new(rt: &HostRuntime) -> Console {
+        Console {
+            input: rt.stdin().lock(),
+            output: rt.stdout().lock(),
+        }
     }
 
-    // The next word, behind spaces and comments. One with too many bytes, comments included, is as if the input had ended before it.
-    pub fn word(&mut self) -> io::Result<Word> {
-        let mut bytes = Vec::new(self.alloc);
+    // The next word, behind spaces and comments; a minus, wherever it stands, makes its number negative. One with too many bytes,
+    // comments included, is as if the input had ended before it.
+    pub fn word(&mut self) -> Word {
+        let mut magnitude = 0;
+        let mut negative = false;
+        let mut open = false;
         let mut comment = false;
         for _ in 0..MOST_BYTES {
-            let byte = self.byte()?;
+            let byte = self.byte();
             match byte {
                 _ if comment => comment = byte != b'\n',
                 b'#' => comment = true,
-                b'-' | b'0'.. => bytes.push(byte)?,
-                b' ' if bytes.iter().all(|byte| *byte == b'-') => {}
+                b'-' => negative = true,
+                b'0'.. => {
+                    open = true;
+                    magnitude = words::with(magnitude, byte);
+                }
+                b' ' if !open => {}
                 _ => {
+                    let number = Number::new(magnitude, negative);
                     let end = (byte != 0).then_some(byte);
-                    return Ok(Word { bytes, end });
+                    return Word { number, end };
                 }
             }
         }
-        Ok(Word {
-            bytes: Vec::new(self.alloc),
+        Word {
+            number: Number::ZERO,
             end: None,
-        })
+        }
     }
 
     // The next byte, which is printed, or 0 where the input has ended.
-    fn byte(&mut self) -> io::Result<u8> {
-        match self.input.by_ref().bytes().next() {
-            Some(byte) => {
-                let byte = byte?;
-                self.output.write_all(&[byte])?;
-                Ok(byte)
+    fn byte(&mut self) -> u8 {
+        let mut one = [0];
+        match self.input.read(&mut one) {
+            Ok(1) => {
+                self.put(&one);
+                one[0]
             }
-            None => Ok(0),
+            _ => 0,
         }
     }
 
     // The next numbers, as many as the caller names.
-    pub fn numbers<const N: usize>(&mut self) -> io::Result<[Number; N]> {
+    pub fn numbers<const N: usize>(&mut self) -> [Number; N] {
         let mut numbers = [Number::ZERO; N];
         for number in &mut numbers {
-            *number = self.word()?.number();
+            *number = self.word().number;
         }
-        Ok(numbers)
+        numbers
+    }
+
+    // A list of numbers behind its length. The last number fills the room to its end, and the room is lent as far as the length says.
+    pub fn list<'a, T: From<Number> + Copy>(&mut self, room: &'a mut [T]) -> &'a mut [T]
+        ensures { length result.now ≤ length room.old }
+    {
+        let mut word = self.word();
+        let length = room.len().min(word.number.into());
+        for place in room.iter_mut() {
+            if word.end == Some(b' ') {
+                word = self.word();
+            }
+            *place = T::from(word.number);
+        }
+        &mut room[..length]
+    }
+
+    // A write that fails is passed over, with what is left of the bytes.
+    fn put(&mut self, bytes: &[u8]) {
+        let mut left = bytes;
+        for _ in 0..bytes.len() {
+            if left.is_empty() {
+                return;
+            }
+            match self.output.write(left) {
+                Ok(put) if put > 0 => left = &left[put..],
+                _ => return,
+            }
+        }
+    }
+
+    // A number behind what stands on the line.
+    pub fn put_value<I: Integer>(&mut self, value: I) {
+        let mut buffer = Buffer::new();
+        let digits = buffer.format(value).as_bytes();
+        self.put(b" ");
+        match digits.split_first() {
+            Some((b'-', size)) => {
+                self.put(b"-");
+                self.put(size);
+            }
+            _ => self.put(digits),
+        }
+    }
+
+    // A line begins with a letter.
+    pub fn begin(&mut self, letter: u8) {
+        self.put(&[letter]);
+    }
+
+    pub fn end(&mut self) {
+        self.put(b"\n");
     }
 
     // A letter and numbers, on a line of their own.
-    pub fn values<T: Display>(&mut self, letter: char, values: &[T]) -> io::Result<()> {
-        write!(self.output, "{letter}")?;
+    pub fn values<I: Integer + Copy>(&mut self, letter: u8, values: &[I]) {
+        self.begin(letter);
         for value in values {
-            write!(self.output, " {value}")?;
+            self.put_value(*value);
         }
-        writeln!(self.output)
+        self.end();
     }
 
     // The answer of an exported function: the refusal, 0 for none, and its place.
-    pub fn answer(&mut self, code: u64) -> io::Result<()> {
-        writeln!(self.output, "= {} {}", code / PLACES, code % PLACES)
-    }
-
-    pub fn flush(&mut self) -> io::Result<()> {
-        self.output.flush()
+    pub fn answer(&mut self, code: u64) {
+        self.values(b'=', &[code / PLACES, code % PLACES]);
     }
 }

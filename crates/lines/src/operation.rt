@@ -1,5 +1,5 @@
 // The names that a line may begin with: what it calls, or what it changes.
-use crate::words::{self, Word};
+use crate::words::{self, Number};
 
 #[derive(Clone, Copy, Debug)]
 pub enum Operation {
@@ -49,14 +49,21 @@ const NAMES: [(&[u8], Operation); 20] = [
 ];
 
 impl Operation {
-    // The one whose name makes the same number as a word.
-    pub fn named(word: &Word) -> Option<Operation> {
-        let number = u64::from(word.number());
+    // The one whose name makes this number.
+    pub fn named(number: Number) -> Option<Operation> {
         for (name, operation) in &NAMES {
-            if words::magnitude(name) == number {
+            if number_of(name) == u64::from(number) {
                 return Some(*operation);
             }
         }
         None
     }
+}
+
+fn number_of(name: &[u8]) -> u64 {
+    let mut number = 0;
+    for byte in name {
+        number = words::with(number, *byte);
+    }
+    number
 }

@@ -1,38 +1,22 @@
 // Words, and the numbers that they make.
 
 // A name or a number, and the byte behind it, which is none where the input has ended.
-#[derive(Drop)]
+#[derive(Clone, Copy)]
 pub struct Word {
-    pub bytes: Vec<u8>,
+    pub number: Number,
     pub end: Option<u8>,
 }
 
-impl Word {
-    // A minus, wherever it stands, makes the number negative.
-    pub fn number(&self) -> Number {
-        let magnitude = magnitude(&self.bytes);
-        if self.bytes.contains(&b'-') {
-            Number(magnitude.wrapping_neg())
-        } else {
-            Number(magnitude)
-        }
+// A word's number with one more letter or digit, or the largest where it is too large. A letter counts as a byte behind what stands
+// before.
+pub(crate) fn with(number: u64, byte: u8) -> u64 {
+    match byte {
+        b'a'.. => number.wrapping_shl(8) | u64::from(byte),
+        _ => number
+            .checked_mul(10)
+            .and_then(|tens| tens.checked_add(u64::from(byte % 48)))
+            .unwrap_or(u64::MAX),
     }
-}
-
-// The number that a word's digits make, or the largest where it is too large. A letter counts as a byte behind what stands before.
-pub fn magnitude(word: &[u8]) -> u64 {
-    let mut number = 0u64;
-    for byte in word {
-        number = match *byte {
-            b'-' => number,
-            b'a'.. => number.wrapping_shl(8) | u64::from(*byte),
-            _ => number
-                .checked_mul(10)
-                .and_then(|tens| tens.checked_add(u64::from(*byte % 48)))
-                .unwrap_or(u64::MAX),
-        };
-    }
-    number
 }
 
 // A number in 64 bits, below zero as two's complement. A type that is smaller takes its lowest bits.
@@ -41,6 +25,20 @@ pub struct Number(u64);
 
 impl Number {
     pub const ZERO: Number = Number(0);
+
+    pub(crate) fn new(magnitude: u64, negative: bool) -> Number {
+        if negative {
+            Number(magnitude.wrapping_neg())
+        } else {
+            Number(magnitude)
+        }
+    }
+}
+
+impl From<u64> for Number {
+    fn from(bits: u64) -> Number {
+        Number(bits)
+    }
 }
 
 impl From<Number> for u64 {

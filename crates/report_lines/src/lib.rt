@@ -9,20 +9,19 @@ use text::Text;
 use totals::Totals;
 
 // The line of a refused file. Crate report_text calls it.
-pub fn put_refused(text: &mut Text, refusal: u8, place: usize)
+pub fn put_refused(text: &mut Text, refusal: usize, place: usize)
     requires { Room text.old (refused_line refusal place) }
     ensures { Put text.old (refused_line refusal place) text.new }
 {
-    let numbers = [usize::from(refusal), place];
-    phrases::put_filled(text, b"refused ? at ?\n", &numbers);
+    phrases::put_filled(text, b"refused ? at ?\n", &[refusal, place]);
 }
 
 // The line of a run. Crate report_text calls it.
-pub fn put_done(text: &mut Text, completed: usize, refusal: u8, place: usize)
+pub fn put_done(text: &mut Text, completed: usize, refusal: usize, place: usize)
     requires { Room text.old (done_line completed refusal place) }
     ensures { Put text.old (done_line completed refusal place) text.new }
 {
-    let numbers = [completed, usize::from(refusal), place];
+    let numbers = [completed, refusal, place];
     phrases::put_filled(text, b"done ? refusal ? at ?\n", &numbers);
 }
 

@@ -36,7 +36,7 @@ fn put_run(
     requires { (valid_length (length records.now) ≡ true) × RoomForReport text.old }
     ensures { Put text.old (run_text completed refusal place totals records.now) text.new }
 {
-    report_lines::put_done(text, completed, refusal, place);
+    report_lines::put_done(text, completed, refusal.into(), place);
     report_lines::put_totals(text, totals);
     put_records(text, records);
 }
@@ -48,7 +48,7 @@ fn put_outcome(outcome: Outcome, records: &[u8], text: &mut Text)
 {
     match outcome {
         Outcome::Refused(refusal) => {
-            report_lines::put_refused(text, refusal.number(), refusal.place());
+            report_lines::put_refused(text, refusal.number().into(), refusal.place());
         }
         Outcome::Done(completed, totals) => put_run(text, completed, 0, 0, totals, records),
         Outcome::Stopped(completed, refusal, totals) => {

@@ -27,9 +27,7 @@ const SMALL_NUMBERS: usize = SMALL * NUMBERS;
 
 const MIDDLE_NUMBERS: usize = MIDDLE * NUMBERS;
 
-// Runs an accepted set with arrays of N numbers. `run` calls it. The attribute keeps the arrays out of `run`, which would need
-// their stack for every call.
-#[inline(never)]
+// Runs an accepted set with arrays of N numbers. `run` calls it with a small set, and `run_apart` with another.
 fn run_sized<const N: usize>(
     settings: Settings,
     steps: usize,
@@ -45,6 +43,23 @@ fn run_sized<const N: usize>(
     let mut a = [0i16; N];
     let mut b = [0i16; N];
     run_set::run_set(settings, steps, records, mass, px, py, &mut a, &mut b)
+}
+
+// The same, whose arrays the attribute keeps out of `run`, which would need their stack for every call. `run` calls it.
+#[inline(never)]
+fn run_apart<const N: usize>(
+    settings: Settings,
+    steps: usize,
+    records: &mut [u8],
+    mass: &mut [u64],
+    px: &mut [i64],
+    py: &mut [i64],
+) -> Result<usize, Stop>
+    requires fits { N < 2 ^ 62 }
+    requires room { RunReady settings records.old mass.old px.old py.old × (per_particle * record_count records.old ≤ N) }
+    ensures { Runs settings steps records.old mass.old px.old py.old result records.new mass.new px.new py.new }
+{
+    run_sized::<N>(settings, steps, records, mass, px, py)
 }
 
 // As many steps as wanted, or until one is refused: the records then hold the last completed step, and the grids the masses
@@ -66,9 +81,9 @@ pub fn run(
     if count <= SMALL {
         run_sized::<SMALL_NUMBERS>(settings, steps, records, mass, px, py)
     } else if count <= MIDDLE {
-        run_sized::<MIDDLE_NUMBERS>(settings, steps, records, mass, px, py)
+        run_apart::<MIDDLE_NUMBERS>(settings, steps, records, mass, px, py)
     } else {
-        run_sized::<SET_NUMBERS>(settings, steps, records, mass, px, py)
+        run_apart::<SET_NUMBERS>(settings, steps, records, mass, px, py)
     }
 }
 

@@ -21,10 +21,10 @@ fn deliver<O: Write, E: Write>(
     requires { end ≤ length text.now }
 {
     let report = &text[..end];
-    if output.write_all(report).is_err() {
-        let _ = errors.write_all(b"report could not be written in full\n");
+    if streams::write_all(output, report).is_err() {
+        let _ = streams::write_all(errors, b"report could not be written in full\n");
     } else if refused {
-        let _ = errors.write_all(report);
+        let _ = streams::write_all(errors, report);
     }
 }
 
@@ -59,7 +59,7 @@ pub fn serve<I: Read, O: Write, E: Write>(
     match input::read_input(input, file) {
         Ok(length) => answer(output, errors, file, length, mass, px, py, text),
         Err(_) => {
-            let _ = errors.write_all(b"input could not be read\n");
+            let _ = streams::write_all(errors, b"input could not be read\n");
         }
     }
 }

@@ -4,40 +4,44 @@
 
 use limits::Caller;
 use lines::console::Console;
-use lines::lists::List;
+use lines::lists::NODES;
 use lines::operation::Operation;
-use std::io;
 use store::{NAME_LENGTH, PLACE_LENGTH};
 
 // So many bytes of a buffer are printed behind a return.
 const SHOWN: usize = 48;
 
-fn keep(console: &mut Console, caller: Caller, store: &mut [u8], file: &[u8]) -> io::Result<()> {
-    let mut name = List::read(console)?;
-    console.answer(by_caller::keep(caller, store, name.lent(), file))
+fn keep(console: &mut Console, caller: Caller, store: &mut [u8], file: &[u8]) {
+    let mut room = [0; NODES];
+    let name = console.list(&mut room);
+    console.answer(by_caller::keep(caller, store, name, file));
 }
 
-fn return_to(console: &mut Console, store: &[u8], buffer: &mut [u8]) -> io::Result<()> {
-    let mut name = List::read(console)?;
+fn return_to(console: &mut Console, store: &[u8], buffer: &mut [u8]) {
+    let mut room = [0; NODES];
+    let name = console.list(&mut room);
     let mut size = 7;
-    console.answer(gondwize::gondwize_return(store, name.lent(), buffer, &mut size))?;
-    console.values('n', &[size])?;
+    console.answer(gondwize::gondwize_return(store, name, buffer, &mut size));
+    console.values(b'n', &[size]);
     let shown = SHOWN.min(buffer.len());
-    console.values('b', &buffer[..shown])
+    console.values(b'b', &buffer[..shown]);
 }
 
-fn forget(console: &mut Console, store: &mut [u8]) -> io::Result<()> {
-    let mut name = List::read(console)?;
-    console.answer(gondwize::gondwize_forget(store, name.lent()))
+fn forget(console: &mut Console, store: &mut [u8]) {
+    let mut room = [0; NODES];
+    let name = console.list(&mut room);
+    console.answer(gondwize::gondwize_forget(store, name));
 }
 
 // The names of a store's places, as the places hold them.
-fn names(console: &mut Console, store: &[u8]) -> io::Result<()> {
-    let mut names = Vec::new(console.alloc);
+fn names(console: &mut Console, store: &[u8]) {
+    console.begin(b's');
     for place in store.chunks_exact(PLACE_LENGTH) {
-        names.extend(place.iter().take(NAME_LENGTH).copied())?;
+        for byte in place.iter().take(NAME_LENGTH) {
+            console.put_value(*byte);
+        }
     }
-    console.values('s', &names)
+    console.end();
 }
 
 // Calls an operation with as much of the store as is lent, and prints the names of all places; nothing where it is none of the
@@ -49,13 +53,13 @@ pub fn call(
     store: &mut [u8],
     lent: usize,
     bytes: &mut [u8],
-) -> io::Result<()> {
+) {
     let lent = lent.min(store.len());
     match operation {
-        Operation::Keep => keep(console, caller, &mut store[..lent], bytes)?,
-        Operation::Return => return_to(console, &store[..lent], bytes)?,
-        Operation::Forget => forget(console, &mut store[..lent])?,
-        _ => return Ok(()),
+        Operation::Keep => keep(console, caller, &mut store[..lent], bytes),
+        Operation::Return => return_to(console, &store[..lent], bytes),
+        Operation::Forget => forget(console, &mut store[..lent]),
+        _ => return,
     }
-    names(console, store)
+    names(console, store);
 }

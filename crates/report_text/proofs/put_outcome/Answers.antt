@@ -5,4 +5,5 @@ use Rattle.report_text.proofs.put_outcome.Goals as goal
 
 pub put_refused-requires : goal.put_refused-requires
 put_refused-requires c =
-    record { room = omega (arith, refused-length c.number.result c.place.result c.number.type_inv c.place.type_inv, c.requires.1) }
+    rw c.into.ensures
+    (record { room = omega (arith, refused-length c.number.result c.place.result c.number.type_inv c.place.type_inv, c.requires.1) })

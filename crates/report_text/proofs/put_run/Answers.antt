@@ -41,8 +41,9 @@ put_done-requires c =
     let a = c.args in
     let t = a.totals in
     let fit : Typed t = typed_of t (search rules) (search rules) (search rules) (search rules) (search rules) (search rules) in
-    room-first (done_line a.completed a.refusal a.place) (totals_line t ++ lines a.records.now)
-    (room a.completed a.refusal a.place t a.records.now c.ranges.completed.fits c.ranges.refusal.fits c.ranges.place.fits fit c.requires.0 c.requires.1)
+    rw c.into.ensures
+    (room-first (done_line a.completed a.refusal a.place) (totals_line t ++ lines a.records.now)
+    (room a.completed a.refusal a.place t a.records.now c.ranges.completed.fits c.ranges.refusal.fits c.ranges.place.fits fit c.requires.0 c.requires.1))
 
 pub put_totals-requires : goal.put_totals-requires
 put_totals-requires c =
@@ -50,7 +51,7 @@ put_totals-requires c =
     let t = a.totals in
     let fit : Typed t = typed_of t (search rules) (search rules) (search rules) (search rules) (search rules) (search rules) in
     room-first (totals_line t) (lines a.records.now)
-    (room_left a.completed a.refusal a.place t a.records.now c.ranges.completed.fits c.ranges.refusal.fits c.ranges.place.fits fit c.requires.0 c.requires.1 c.put_done.ensures)
+    (room_left a.completed a.refusal a.place t a.records.now c.ranges.completed.fits c.ranges.refusal.fits c.ranges.place.fits fit c.requires.0 c.requires.1 (rw c.into.ensures at c.put_done.ensures))
 
 pub put_records-requires : goal.put_records-requires
 put_records-requires c =
@@ -58,9 +59,9 @@ put_records-requires c =
     let t = a.totals in
     let fit : Typed t = typed_of t (search rules) (search rules) (search rules) (search rules) (search rules) (search rules) in
     room-second (totals_line t) (lines a.records.now)
-    (room_left a.completed a.refusal a.place t a.records.now c.ranges.completed.fits c.ranges.refusal.fits c.ranges.place.fits fit c.requires.0 c.requires.1 c.put_done.ensures)
+    (room_left a.completed a.refusal a.place t a.records.now c.ranges.completed.fits c.ranges.refusal.fits c.ranges.place.fits fit c.requires.0 c.requires.1 (rw c.into.ensures at c.put_done.ensures))
     c.put_totals.ensures
 
 pub returns : goal.returns
 unfolding run_text particles_in
-returns c = put_then c.put_done.ensures (put_then c.put_totals.ensures c.put_records.ensures)
+returns c = put_then (rw c.into.ensures at c.put_done.ensures) (put_then c.put_totals.ensures c.put_records.ensures)

@@ -50,14 +50,14 @@ run_sized-requires-clause-room c =
     let e = c.in_ok-count.ensures in
     (ready a.caller a.settings a.steps a.records.now a.mass.now a.px.now a.py.now e, room a.caller a.settings a.steps a.records.now a.mass.now a.px.now a.py.now e c.if-count-le-SMALL.true)
 
-pub run_sized-requires-then-count-le-MIDDLE-clause-room : goal.run_sized-requires-then-count-le-MIDDLE-clause-room
-run_sized-requires-then-count-le-MIDDLE-clause-room c =
+pub run_apart-requires-clause-room : goal.run_apart-requires-clause-room
+run_apart-requires-clause-room c =
     let a = c.args in
     let e = c.in_ok-count.ensures in
     (ready a.caller a.settings a.steps a.records.now a.mass.now a.px.now a.py.now e, room a.caller a.settings a.steps a.records.now a.mass.now a.px.now a.py.now e c.if-count-le-MIDDLE.true)
 
-pub run_sized-requires-else-count-le-MIDDLE-clause-room : goal.run_sized-requires-else-count-le-MIDDLE-clause-room
-run_sized-requires-else-count-le-MIDDLE-clause-room c =
+pub run_apart-requires-else-count-le-MIDDLE-clause-room : goal.run_apart-requires-else-count-le-MIDDLE-clause-room
+run_apart-requires-else-count-le-MIDDLE-clause-room c =
     let a = c.args in
     let e = c.in_ok-count.ensures in
     (ready a.caller a.settings a.steps a.records.now a.mass.now a.px.now a.py.now e, most a.caller a.settings a.steps a.records.now a.mass.now a.px.now a.py.now e)
@@ -70,9 +70,9 @@ returns-then-count-le-SMALL c =
 pub returns-then-count-le-MIDDLE : goal.returns-then-count-le-MIDDLE
 returns-then-count-le-MIDDLE c =
     let a = c.args in
-    sees a.caller a.settings a.steps a.records.now a.mass.now a.px.now a.py.now c.in_ok-count.ensures c.run_sized-then-count-le-MIDDLE.result c.run_sized-then-count-le-MIDDLE.ensures
+    sees a.caller a.settings a.steps a.records.now a.mass.now a.px.now a.py.now c.in_ok-count.ensures c.run_apart.result c.run_apart.ensures
 
 pub returns-else-count-le-MIDDLE : goal.returns-else-count-le-MIDDLE
 returns-else-count-le-MIDDLE c =
     let a = c.args in
-    sees a.caller a.settings a.steps a.records.now a.mass.now a.px.now a.py.now c.in_ok-count.ensures c.run_sized-else-count-le-MIDDLE.result c.run_sized-else-count-le-MIDDLE.ensures
+    sees a.caller a.settings a.steps a.records.now a.mass.now a.px.now a.py.now c.in_ok-count.ensures c.run_apart-else-count-le-MIDDLE.result c.run_apart-else-count-le-MIDDLE.ensures
