@@ -15,14 +15,14 @@ fn check_set(console: &mut Console, caller: Caller, bytes: &[u8]) {
     let [nx, ny] = console.numbers::<2>();
     let mut count = 7;
     console.answer(by_caller::check_set(caller, nx.into(), ny.into(), bytes, &mut count));
-    console.values(b'n', &[count]);
+    console.integers(b'n', &[count]);
 }
 
 fn totals(console: &mut Console, caller: Caller, bytes: &[u8]) {
     let [nx, ny] = console.numbers::<2>();
     let mut values = [7; SUMS];
     console.answer(by_caller::totals(caller, nx.into(), ny.into(), bytes, &mut values));
-    console.values(b'v', &values);
+    console.integers(b'v', &values);
 }
 
 fn scatter(console: &mut Console, caller: Caller, bytes: &[u8]) {
@@ -132,14 +132,14 @@ fn run(console: &mut Console, caller: Caller, bytes: &mut [u8]) {
     );
     console.answer(code);
     records::print(console, bytes);
-    console.values(b'n', &[completed]);
+    console.integers(b'n', &[completed]);
     grid.print(console);
 }
 
 fn read_file(console: &mut Console, caller: Caller, bytes: &[u8]) {
     let mut values = [7; SETTINGS];
     console.answer(by_caller::read_file(caller, bytes, &mut values));
-    console.values(b'v', &values);
+    console.integers(b'v', &values);
 }
 
 // Calls an operation for a caller; nothing where it is none of these. The program `cases` calls it.

@@ -7,9 +7,9 @@ pub fn print(console: &mut Console, bytes: &[u8]) {
     for record in bytes.chunks(RECORD_LENGTH) {
         let mut fields = [0; NUMBERS];
         if gondwize::gondwize_read_record(record, &mut fields) == 0 {
-            console.values(b'r', &fields);
+            console.integers(b'r', &fields);
         } else {
-            console.values(b'b', record);
+            console.integers(b'b', record);
         }
     }
 }

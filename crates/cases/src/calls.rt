@@ -11,13 +11,13 @@ fn weights(console: &mut Console) {
     let [q] = console.numbers::<1>();
     let mut values = [7; 3];
     console.answer(gondwize::gondwize_weights(q.into(), &mut values));
-    console.values(b'v', &values);
+    console.integers(b'v', &values);
 }
 
 fn read_record(console: &mut Console, bytes: &[u8]) {
     let mut values = [7; NUMBERS];
     console.answer(gondwize::gondwize_read_record(bytes, &mut values));
-    console.values(b'r', &values);
+    console.integers(b'r', &values);
 }
 
 fn write_record(console: &mut Console, bytes: &mut [u8]) {

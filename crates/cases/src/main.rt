@@ -24,7 +24,7 @@ const MOST_LINES: u32 = 65536;
 // The lines, one after the other, up to the last name that has a byte behind it. A name that is not known is passed over.
 fn serve(console: &mut Console, kept: &mut Kept) {
     for _ in 0..MOST_LINES {
-        let name = console.word();
+        let name = console.item();
         if name.end.is_none() {
             return;
         }

@@ -1,10 +1,13 @@
 // Standard input by words, and standard output. Each byte is printed as it is taken, so that whoever sends one call after the other
-// sees the answer to each. A read that fails is the end of the input, and what cannot be written is passed over.
+// sees the answer to each. A read that fails is the end of the input, and what cannot be written is passed over; what answers a
+// `Result` tells of both.
 ghost use Rattle.std.specs.Prelude.{◌≤◌, length};
 
-use crate::words::{self, Number, Word};
+use crate::words::{self, Item, Number, Word};
 use itoa::{Buffer, Integer};
-use std::io::{Lock, Read, StdinLock, StdoutLock, Write};
+use std::alloc::Global;
+use std::fmt::Display;
+use std::io::{self, Lock, Read, StdinLock, StdoutLock, Write};
 
 // What a refusal's number is multiplied by in the answer of an exported function.
 const PLACES: u64 = 0x100000000;
@@ -14,6 +17,7 @@ const MOST_BYTES: u32 = 65536;
 
 #[derive(Drop)]
 pub struct Console {
+    pub alloc: Global,
     input: StdinLock<'static>,
     output: StdoutLock<'static>,
 }
@@ -21,14 +25,15 @@ pub struct Console {
 impl Console {
     pub fn new(rt: &HostRuntime) -> Console {
         Console {
+            alloc: rt.alloc(),
             input: rt.stdin().lock(),
             output: rt.stdout().lock(),
         }
     }
 
-    // The next word, behind spaces and comments; a minus, wherever it stands, makes its number negative. One with too many bytes,
-    // comments included, is as if the input had ended before it.
-    pub fn word(&mut self) -> Word {
+    // The number of the next word, behind spaces and comments; a minus, wherever it stands, makes it negative. A word with too many
+    // bytes, comments included, is as if the input had ended before it.
+    pub fn item(&mut self) -> Item {
         let mut magnitude = 0;
         let mut negative = false;
         let mut open = false;
@@ -47,11 +52,11 @@ impl Console {
                 _ => {
                     let number = Number::new(magnitude, negative);
                     let end = (byte != 0).then_some(byte);
-                    return Word { number, end };
+                    return Item { number, end };
                 }
             }
         }
-        Word {
+        Item {
             number: Number::ZERO,
             end: None,
         }
@@ -73,7 +78,7 @@ impl Console {
     pub fn numbers<const N: usize>(&mut self) -> [Number; N] {
         let mut numbers = [Number::ZERO; N];
         for number in &mut numbers {
-            *number = self.word().number;
+            *number = self.item().number;
         }
         numbers
     }
@@ -82,11 +87,11 @@ impl Console {
     pub fn list<'a, T: From<Number> + Copy>(&mut self, room: &'a mut [T]) -> &'a mut [T]
         ensures { length result.now ≤ length room.old }
     {
-        let mut word = self.word();
+        let mut word = self.item();
         let length = room.len().min(word.number.into());
         for place in room.iter_mut() {
             if word.end == Some(b' ') {
-                word = self.word();
+                word = self.item();
             }
             *place = T::from(word.number);
         }
@@ -131,7 +136,7 @@ impl Console {
     }
 
     // A letter and numbers, on a line of their own.
-    pub fn values<I: Integer + Copy>(&mut self, letter: u8, values: &[I]) {
+    pub fn integers<I: Integer + Copy>(&mut self, letter: u8, values: &[I]) {
         self.begin(letter);
         for value in values {
             self.put_value(*value);
@@ -141,6 +146,61 @@ impl Console {
 
     // The answer of an exported function: the refusal, 0 for none, and its place.
     pub fn answer(&mut self, code: u64) {
-        self.values(b'=', &[code / PLACES, code % PLACES]);
+        self.integers(b'=', &[code / PLACES, code % PLACES]);
+    }
+}
+
+// What tells of a stream that fails, and of memory that runs out.
+impl Console {
+    // The next word in its bytes, where `item` has its number.
+    pub fn word(&mut self) -> io::Result<Word> {
+        let mut bytes = Vec::new(self.alloc);
+        let mut open = false;
+        let mut comment = false;
+        for _ in 0..MOST_BYTES {
+            let byte = self.taken()?;
+            match byte {
+                _ if comment => comment = byte != b'\n',
+                b'#' => comment = true,
+                b'-' | b'0'.. => {
+                    open |= byte != b'-';
+                    bytes.push(byte)?;
+                }
+                b' ' if !open => {}
+                _ => {
+                    let end = (byte != 0).then_some(byte);
+                    return Ok(Word { bytes, end });
+                }
+            }
+        }
+        Ok(Word {
+            bytes: Vec::new(self.alloc),
+            end: None,
+        })
+    }
+
+    // The next byte, which is printed, or 0 where the input has ended.
+    fn taken(&mut self) -> io::Result<u8> {
+        match self.input.by_ref().bytes().next() {
+            Some(byte) => {
+                let byte = byte?;
+                self.output.write_all(&[byte])?;
+                Ok(byte)
+            }
+            None => Ok(0),
+        }
+    }
+
+    // A letter and what is printed of each value, on a line of their own.
+    pub fn values<T: Display>(&mut self, letter: char, values: &[T]) -> io::Result<()> {
+        write!(self.output, "{letter}")?;
+        for value in values {
+            write!(self.output, " {value}")?;
+        }
+        writeln!(self.output)
+    }
+
+    pub fn flush(&mut self) -> io::Result<()> {
+        self.output.flush()
     }
 }

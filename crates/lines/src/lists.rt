@@ -27,8 +27,8 @@ impl Grid {
 
     // Prints the buffers, whole.
     pub fn print(&self, console: &mut Console) {
-        console.values(b'm', &self.mass);
-        console.values(b'x', &self.x);
-        console.values(b'y', &self.y);
+        console.integers(b'm', &self.mass);
+        console.integers(b'x', &self.x);
+        console.integers(b'y', &self.y);
     }
 }

@@ -1,15 +1,50 @@
 // Words, and the numbers that they make.
+ghost use Rattle.std.specs.Prelude.{◌≡◌};
+ghost use Rattle.lines.specs.Words.{Signed, has_minus, with_byte, with_word};
 
-// A name or a number, and the byte behind it, which is none where the input has ended.
+// The number that a word makes, and the byte behind the word, which is none where the input has ended.
 #[derive(Clone, Copy)]
-pub struct Word {
+pub struct Item {
     pub number: Number,
     pub end: Option<u8>,
 }
 
+// A name or a number in its bytes, and the byte behind it, which is none where the input has ended.
+#[derive(Drop)]
+pub struct Word {
+    pub bytes: Vec<u8>,
+    pub end: Option<u8>,
+}
+
+impl Word {
+    // A minus, wherever it stands, makes the number negative.
+    pub fn number(&self) -> Number
+        ensures { Signed result.0 (has_minus self.now.bytes.items) (with_word 0 self.now.bytes.items) }
+    {
+        Number::new(magnitude(&self.bytes), self.bytes.contains(&b'-'))
+    }
+}
+
+// The number that a word's digits and letters make. A minus is passed over.
+#[tactic(auto, unfolding(crate::specs::Words::with_word), using(std::proofs::lemmas::List::at_drop_more, std::proofs::lemmas::List::at_drop_all, std::proofs::lemmas::Bool::Decides::nat_tests))]
+pub fn magnitude(word: &[u8]) -> u64
+    ensures { result ≡ with_word 0 word.now }
+{
+    let mut number = 0;
+    for byte in word {
+        if *byte != b'-' {
+            number = with(number, *byte);
+        }
+    }
+    number
+}
+
 // A word's number with one more letter or digit, or the largest where it is too large. A letter counts as a byte behind what stands
 // before.
-pub(crate) fn with(number: u64, byte: u8) -> u64 {
+#[tactic(auto, unfolding(crate::specs::Words::with_byte), using(std::proofs::lemmas::Bool::Decides::nat_tests))]
+pub(crate) fn with(number: u64, byte: u8) -> u64
+    ensures { result ≡ with_byte number byte }
+{
     match byte {
         b'a'.. => number.wrapping_shl(8) | u64::from(byte),
         _ => number
@@ -26,7 +61,9 @@ pub struct Number(u64);
 impl Number {
     pub const ZERO: Number = Number(0);
 
-    pub(crate) fn new(magnitude: u64, negative: bool) -> Number {
+    pub(crate) fn new(magnitude: u64, negative: bool) -> Number
+        ensures { Signed result.0 negative magnitude }
+    {
         if negative {
             Number(magnitude.wrapping_neg())
         } else {

@@ -22,9 +22,9 @@ fn return_to(console: &mut Console, store: &[u8], buffer: &mut [u8]) {
     let name = console.list(&mut room);
     let mut size = 7;
     console.answer(gondwize::gondwize_return(store, name, buffer, &mut size));
-    console.values(b'n', &[size]);
+    console.integers(b'n', &[size]);
     let shown = SHOWN.min(buffer.len());
-    console.values(b'b', &buffer[..shown]);
+    console.integers(b'b', &buffer[..shown]);
 }
 
 fn forget(console: &mut Console, store: &mut [u8]) {
