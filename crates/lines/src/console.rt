@@ -1,7 +1,7 @@
 // Standard input by words, and standard output. Each byte is printed as it is taken, so that whoever sends one call after the other
 // sees the answer to each. A read that fails is the end of the input, and what cannot be written is passed over; what answers a
 // `Result` tells of both.
-ghost use Rattle.std.specs.Prelude.{◌≤◌, length};
+ghost use Rattle.std.specs.Prelude.{◌≤◌, length, IfOk};
 
 use crate::words::{self, Item, Number, Word};
 use itoa::{Buffer, Integer};
@@ -152,43 +152,12 @@ impl Console {
 
 // What tells of a stream that fails, and of memory that runs out.
 impl Console {
-    // The next word in its bytes, where `item` has its number.
-    pub fn word(&mut self) -> io::Result<Word> {
-        let mut bytes = Vec::new(self.alloc);
-        let mut open = false;
-        let mut comment = false;
-        for _ in 0..MOST_BYTES {
-            let byte = self.taken()?;
-            match byte {
-                _ if comment => comment = byte != b'\n',
-                b'#' => comment = true,
-                b'-' | b'0'.. => {
-                    open |= byte != b'-';
-                    bytes.push(byte)?;
-                }
-                b' ' if !open => {}
-                _ => {
-                    let end = (byte != 0).then_some(byte);
-                    return Ok(Word { bytes, end });
-                }
-            }
-        }
-        Ok(Word {
-            bytes: Vec::new(self.alloc),
-            end: None,
-        })
-    }
-
-    // The next byte, which is printed, or 0 where the input has ended.
-    fn taken(&mut self) -> io::Result<u8> {
-        match self.input.by_ref().bytes().next() {
-            Some(byte) => {
-                let byte = byte?;
-                self.output.write_all(&[byte])?;
-                Ok(byte)
-            }
-            None => Ok(0),
-        }
+    // The next word in its bytes, behind spaces and comments. One with too many bytes, comments included, is as if the input had
+    // ended before it.
+    pub fn word(&mut self) -> io::Result<Word>
+        ensures { IfOk result (λ w. length w.bytes.items ≤ 65536) }
+    {
+        read_word(&mut self.input, &mut self.output, self.alloc)
     }
 
     // A letter and what is printed of each value, on a line of their own.
@@ -202,5 +171,50 @@ impl Console {
 
     pub fn flush(&mut self) -> io::Result<()> {
         self.output.flush()
+    }
+}
+
+// The next word of an input, each byte of which is printed. `Console::word` calls it.
+pub(crate) fn read_word<R: Read, W: Write>(
+    input: &mut R,
+    output: &mut W,
+    alloc: Global,
+) -> io::Result<Word>
+    ensures most { IfOk result (λ w. length w.bytes.items ≤ 65536) }
+{
+    let mut bytes = Vec::new(alloc);
+    let mut open = false;
+    let mut comment = false;
+    for _ in 0..MOST_BYTES {
+        let byte = taken(input, output)?;
+        match byte {
+            _ if comment => comment = byte != b'\n',
+            b'#' => comment = true,
+            b'-' | b'0'.. => {
+                open |= byte != b'-';
+                bytes.push(byte)?;
+            }
+            b' ' if !open => {}
+            _ => {
+                let end = (byte != 0).then_some(byte);
+                return Ok(Word { bytes, end });
+            }
+        }
+    }
+    Ok(Word {
+        bytes: Vec::new(alloc),
+        end: None,
+    })
+}
+
+// The next byte, which is printed, or 0 where the input has ended.
+fn taken<R: Read, W: Write>(input: &mut R, output: &mut W) -> io::Result<u8> {
+    match input.by_ref().bytes().next() {
+        Some(byte) => {
+            let byte = byte?;
+            output.write_all(&[byte])?;
+            Ok(byte)
+        }
+        None => Ok(0),
     }
 }

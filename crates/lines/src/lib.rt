@@ -1,5 +1,5 @@
 // What the program `cases` reads and prints: words, numbers and lists from standard input, and lines of a letter and numbers. Beside
-// it, words in their bytes and lines of anything that is printed, which tell of a stream that fails.
+// that, words in their bytes and lines of anything that can be printed, with an answer that tells of a stream that fails.
 #![tactic(auto)]
 
 pub mod console;

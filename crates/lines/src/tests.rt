@@ -1,5 +1,5 @@
 // Words in their bytes, the numbers that they make, and what tells of a stream that fails.
-use crate::console::Console;
+use crate::console::{self, Console};
 use crate::words::{self, Word};
 use std::test::Fail;
 
@@ -23,8 +23,36 @@ fn words_make_numbers(rt: HostRuntime) -> Result<(), Fail> {
         assert_eq!(rt; words::magnitude(&bytes), magnitude, "{text}");
         let word = Word { bytes, end: None };
         assert_eq!(rt; i64::from(word.number()), number, "{text}");
+        assert_eq!(rt; u64::from(word.number()), number.cast_unsigned(), "{text}");
     }
     Ok(())
+}
+
+#[test]
+fn words_are_read(rt: HostRuntime) -> Result<(), Fail> {
+    let text = "# one 2\n  - 12-3 page#, 4\n,\n";
+    let mut input = text.as_bytes();
+    let mut printed = Vec::new(rt.alloc());
+    for (bytes, end) in [
+        ("-12-3", Some(b' ')),
+        ("page", Some(b',')),
+        ("", Some(b'\n')),
+        ("", None),
+    ] {
+        let word = console::read_word(&mut input, &mut printed, rt.alloc())?;
+        assert_eq!(rt; word.bytes.as_slice(), bytes.as_bytes());
+        assert_eq!(rt; word.end, end);
+    }
+    assert_eq!(rt; printed.as_slice(), text.as_bytes());
+    Ok(())
+}
+
+#[test]
+fn failed_output_is_told(rt: HostRuntime) {
+    let mut input = "123 ".as_bytes();
+    let mut room = [0; 3];
+    let mut output = &mut room[..];
+    assert!(rt; console::read_word(&mut input, &mut output, rt.alloc()).is_err());
 }
 
 // The input of a test is empty.

@@ -1,6 +1,6 @@
 // Words, and the numbers that they make.
 ghost use Rattle.std.specs.Prelude.{◌≡◌};
-ghost use Rattle.lines.specs.Words.{Signed, has_minus, with_byte, with_word};
+ghost use Rattle.lines.specs.Words.{Signed, bits, has_minus, with_byte, with_word};
 
 // The number that a word makes, and the byte behind the word, which is none where the input has ended.
 #[derive(Clone, Copy)]
@@ -19,13 +19,14 @@ pub struct Word {
 impl Word {
     // A minus, wherever it stands, makes the number negative.
     pub fn number(&self) -> Number
-        ensures { Signed result.0 (has_minus self.now.bytes.items) (with_word 0 self.now.bytes.items) }
+        ensures { Signed (bits result) (has_minus self.now.bytes.items) (with_word 0 self.now.bytes.items) }
     {
         Number::new(magnitude(&self.bytes), self.bytes.contains(&b'-'))
     }
 }
 
-// The number that a word's digits and letters make. A minus is passed over.
+// The number that a word's digits and letters make, or the largest where it is too large. A letter counts as a byte behind what stands
+// before. A minus is passed over.
 #[tactic(auto, unfolding(crate::specs::Words::with_word), using(std::proofs::lemmas::List::at_drop_more, std::proofs::lemmas::List::at_drop_all, std::proofs::lemmas::Bool::Decides::nat_tests))]
 pub fn magnitude(word: &[u8]) -> u64
     ensures { result ≡ with_word 0 word.now }
@@ -62,7 +63,7 @@ impl Number {
     pub const ZERO: Number = Number(0);
 
     pub(crate) fn new(magnitude: u64, negative: bool) -> Number
-        ensures { Signed result.0 negative magnitude }
+        ensures { Signed (bits result) negative magnitude }
     {
         if negative {
             Number(magnitude.wrapping_neg())
@@ -79,7 +80,9 @@ impl From<u64> for Number {
 }
 
 impl From<Number> for u64 {
-    fn from(number: Number) -> u64 {
+    fn from(number: Number) -> u64
+        ensures { result ≡ bits number }
+    {
         number.0
     }
 }
