@@ -155,9 +155,9 @@ impl Console {
     // The next word in its bytes, behind spaces and comments. One with too many bytes, comments included, is as if the input had
     // ended before it.
     pub fn word(&mut self) -> io::Result<Word>
-        ensures { IfOk result (λ w. length w.bytes.items ≤ 65536) }
+        ensures { IfOk result (λ w. length w.bytes.items ≤ 65535) }
     {
-        read_word(&mut self.input, &mut self.output, self.alloc)
+        word_from(&mut self.input, &mut self.output, self.alloc)
     }
 
     // A letter and what is printed of each value, on a line of their own.
@@ -169,18 +169,19 @@ impl Console {
         writeln!(self.output)
     }
 
+    // Nothing is held back, so that there is nothing to fail.
     pub fn flush(&mut self) -> io::Result<()> {
         self.output.flush()
     }
 }
 
 // The next word of an input, each byte of which is printed. `Console::word` calls it.
-pub(crate) fn read_word<R: Read, W: Write>(
+pub(crate) fn word_from<R: Read, W: Write>(
     input: &mut R,
     output: &mut W,
     alloc: Global,
 ) -> io::Result<Word>
-    ensures most { IfOk result (λ w. length w.bytes.items ≤ 65536) }
+    ensures most { IfOk result (λ w. length w.bytes.items ≤ 65535) }
 {
     let mut bytes = Vec::new(alloc);
     let mut open = false;

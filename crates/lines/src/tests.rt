@@ -30,16 +30,16 @@ fn words_make_numbers(rt: HostRuntime) -> Result<(), Fail> {
 
 #[test]
 fn words_are_read(rt: HostRuntime) -> Result<(), Fail> {
-    let text = "# one 2\n  - 12-3 page#, 4\n,\n";
+    let text = "# one 2\n  - 10- page#, 4\n,\n";
     let mut input = text.as_bytes();
     let mut printed = Vec::new(rt.alloc());
     for (bytes, end) in [
-        ("-12-3", Some(b' ')),
+        ("-10-", Some(b' ')),
         ("page", Some(b',')),
         ("", Some(b'\n')),
         ("", None),
     ] {
-        let word = console::read_word(&mut input, &mut printed, rt.alloc())?;
+        let word = console::word_from(&mut input, &mut printed, rt.alloc())?;
         assert_eq!(rt; word.bytes.as_slice(), bytes.as_bytes());
         assert_eq!(rt; word.end, end);
     }
@@ -52,7 +52,7 @@ fn failed_output_is_told(rt: HostRuntime) {
     let mut input = "123 ".as_bytes();
     let mut room = [0; 3];
     let mut output = &mut room[..];
-    assert!(rt; console::read_word(&mut input, &mut output, rt.alloc()).is_err());
+    assert!(rt; console::word_from(&mut input, &mut output, rt.alloc()).is_err());
 }
 
 // The input of a test is empty.
